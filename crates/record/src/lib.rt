@@ -1,0 +1,5 @@
+//! The archive record: refusals, bytes to words, and reading a record into its parts.
+
+pub mod refusal;
+pub mod members;
+pub mod bytes;
