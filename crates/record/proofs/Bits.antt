@@ -46,7 +46,7 @@ has-one k j = ⊎-elim same (⊎-elim below above) (cases-order j k)
     above : k < j → has (2 ^ k) j ≡ eqb j k
     above l = ap (λ x. eqb (x % 2) 1) (div-eq-of-lt (pow-below k j l)) ∙ sym (ne-eqb j k (omega arith))
 
-or-swap : (a b : Bool) → (a || b) ≡ (b || a)
+pub or-swap : (a b : Bool) → (a || b) ≡ (b || a)
 or-swap true true = refl
 or-swap true false = refl
 or-swap false true = refl

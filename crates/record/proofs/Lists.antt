@@ -1,3 +1,112 @@
 -- Laws of the words of specs/Lists.
 use mathlib.Core.Path.{_≡_, sym, _∙_, ap, refl}
-use Prim.Native.Nat.{ℕ}
+use mathlib.Core.List.{List, [], _∷_, _++_, map}
+use mathlib.Core.Bool.{Bool, true, false, cond, not, _&&_, _||_}
+use mathlib.Core.Logic.{⊎-elim}
+use Prim.Native.Nat.{ℕ, zero, suc, _+_, _-_, _<_, _≤_}
+use native.Mathlib.Numerals.{add-one}
+use native.Mathlib.Omega.{arith}
+use lib.ListN.{length}
+use lib.Dec.{eqb, leb, ltb}
+use Rattle.std.specs.declared.option.Option.{Option}
+use Rattle.std.specs.declared.option.Option.the-variants.{None, Some}
+use Rattle.std.specs.shelf.Lists.{kept-by, All}
+use Rattle.std.proofs.shelf.Tests.{and-parts, or-parts, cases-order, false≢true, eqb-false, ne-eqb, eqb-true}
+use Rattle.std.proofs.shelf.Ways.{tells}
+use Rattle.record.specs.Refusals.{orElse}
+use Rattle.record.specs.Lists.{every, among, Distinct, earliest}
+
+and-assoc : (a b c : Bool) → (a && (b && c)) ≡ ((a && b) && c)
+and-assoc true b c = refl
+and-assoc false b c = refl
+
+or-assoc : (a b c : Bool) → (a || (b || c)) ≡ ((a || b) || c)
+or-assoc true b c = refl
+or-assoc false b c = refl
+
+and-true : (a : Bool) → (a && true) ≡ a
+and-true true = refl
+and-true false = refl
+
+pub or-false : (a : Bool) → (a || false) ≡ a
+or-false true = refl
+or-false false = refl
+
+pub every-append : {X : Type 0} (t : X → Bool) (xs ys : List X) → every t (xs ++ ys) ≡ (every t xs && every t ys)
+every-append t [] ys = refl
+every-append t (x ∷ xs) ys = ap (λ b. t x && b) (every-append t xs ys) ∙ and-assoc (t x) (every t xs) (every t ys)
+
+pub every-push : {X : Type 0} (t : X → Bool) (xs : List X) (y : X) → every t (xs ++ y ∷ []) ≡ (every t xs && t y)
+every-push t xs y = every-append t xs (y ∷ []) ∙ ap (λ b. every t xs && b) (and-true (t y))
+
+-- a weaker test passes where a stronger one did
+pub every-weaker : {X : Type 0} (t u : X → Bool) → ((x : X) → t x ≡ true → u x ≡ true) → (xs : List X) → every t xs ≡ true → every u xs ≡ true
+every-weaker t u f [] e = refl
+every-weaker t u f (x ∷ xs) e =
+    let p = and-parts (t x) (every t xs) e in
+    ap (λ b. b && every u xs) (f x (p .0)) ∙ every-weaker t u f xs (p .1)
+
+pub every-all : {X : Type 0} (t : X → Bool) (xs : List X) → every t xs ≡ true → All (λ x. t x ≡ true) xs
+every-all t [] e = tt
+every-all t (x ∷ xs) e = let p = and-parts (t x) (every t xs) e in (p .0, every-all t xs (p .1))
+
+pub all-every : {X : Type 0} (t : X → Bool) (xs : List X) → All (λ x. t x ≡ true) xs → every t xs ≡ true
+all-every t [] a = refl
+all-every t (x ∷ xs) a = ap (λ b. b && every t xs) (a .0) ∙ all-every t xs (a .1)
+
+pub among-append : (x : ℕ) (xs ys : List ℕ) → among x (xs ++ ys) ≡ (among x xs || among x ys)
+among-append x [] ys = refl
+among-append x (y ∷ xs) ys = ap (λ b. eqb x y || b) (among-append x xs ys) ∙ or-assoc (eqb x y) (among x xs) (among x ys)
+
+pub among-push : (x : ℕ) (xs : List ℕ) (y : ℕ) → among x (xs ++ y ∷ []) ≡ (among x xs || eqb x y)
+among-push x xs y = among-append x xs (y ∷ []) ∙ ap (λ b. among x xs || b) (or-false (eqb x y))
+
+-- what passes one test passes none that excludes it
+pub kept-none : {X : Type 0} (t p : X → Bool) → ((x : X) → t x ≡ true → p x ≡ false) → (xs : List X) → every t xs ≡ true → kept-by p xs ≡ []
+kept-none t p f [] e = refl
+kept-none t p f (x ∷ xs) e =
+    let q = and-parts (t x) (every t xs) e in
+    ap (λ b. cond b (x ∷ kept-by p xs) (kept-by p xs)) (f x (q .0)) ∙ kept-none t p f xs (q .1)
+
+pub kept-all : {X : Type 0} (t p : X → Bool) → ((x : X) → t x ≡ true → p x ≡ true) → (xs : List X) → every t xs ≡ true → kept-by p xs ≡ xs
+kept-all t p f [] e = refl
+kept-all t p f (x ∷ xs) e =
+    let q = and-parts (t x) (every t xs) e in
+    ap (λ b. cond b (x ∷ kept-by p xs) (kept-by p xs)) (f x (q .0)) ∙ ap (λ l. x ∷ l) (kept-all t p f xs (q .1))
+
+pub distinct-push : (xs : List ℕ) (y : ℕ) → Distinct xs → among y xs ≡ false → Distinct (xs ++ y ∷ [])
+distinct-push [] y d a = (refl, tt)
+distinct-push (x ∷ xs) y d a =
+    let p = or-parts (eqb y x) (among y xs) a in
+    let n : eqb x y ≡ false = ne-eqb x y (λ e. eqb-false y x (p .0) (sym e)) in
+    (among-push x xs y ∙ ap (λ b. b || eqb x y) (d .0) ∙ n, distinct-push xs y (d .1) (p .1))
+
+-- Of the refusals of the members below n: one step, the lowest found, and none found.
+pub earliest-more : (f : ℕ → Option (ℕ × ℕ)) (i : ℕ) → earliest f i ≡ None → earliest f (i + 1) ≡ f i
+earliest-more f i e = ap (earliest f) (add-one i) ∙ ap (λ o. orElse o (f i)) e
+
+earliest-stays : (f : ℕ → Option (ℕ × ℕ)) (i k : ℕ) (c : ℕ × ℕ) → earliest f i ≡ Some c → earliest f (i + k) ≡ Some c
+earliest-stays f i zero c e = let s : i + 0 ≡ i = omega arith in ap (earliest f) s ∙ e
+earliest-stays f i (suc k) c e =
+    let s : i + suc k ≡ suc (i + k) = omega arith in
+    ap (earliest f) s ∙ ap (λ o. orElse o (f (i + k))) (earliest-stays f i k c e)
+
+pub earliest-found : (f : ℕ → Option (ℕ × ℕ)) (i n : ℕ) (c : ℕ × ℕ) → i < n → earliest f i ≡ None → f i ≡ Some c → earliest f n ≡ Some c
+earliest-found f i n c h e g =
+    let d : n ≡ (i + 1) + (n - (i + 1)) = omega arith in
+    ap (earliest f) d ∙ earliest-stays f (i + 1) (n - (i + 1)) c (earliest-more f i e ∙ g)
+
+orElse-none : (a b : Option (ℕ × ℕ)) → orElse a b ≡ None → (a ≡ None) × (b ≡ None)
+orElse-none None b e = (refl, e)
+orElse-none (Some c) b e = grind arith
+
+-- nobody below n has a refusal: nobody below n, one by one
+pub earliest-none : (f : ℕ → Option (ℕ × ℕ)) (n : ℕ) → earliest f n ≡ None → (i : ℕ) → i < n → f i ≡ None
+earliest-none f zero e i h = absurd (omega arith)
+earliest-none f (suc n) e i h =
+    let p = orElse-none (earliest f n) (f n) e in
+    ⊎-elim (λ s. ap f s ∙ p .1) (⊎-elim (λ l. earliest-none f n (p .0) i l) (λ l. absurd (omega arith))) (cases-order i n)
+
+pub none-earliest : (f : ℕ → Option (ℕ × ℕ)) (n : ℕ) → ((i : ℕ) → i < n → f i ≡ None) → earliest f n ≡ None
+none-earliest f zero g = refl
+none-earliest f (suc n) g = ap (λ o. orElse o (f n)) (none-earliest f n (λ i h. g i (omega arith))) ∙ g n (omega arith)

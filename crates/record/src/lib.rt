@@ -3,3 +3,7 @@
 pub mod refusal;
 pub mod members;
 pub mod bytes;
+pub mod word;
+mod scan;
+mod order;
+pub mod read;
