@@ -15,7 +15,7 @@ use Rattle.std.proofs.shelf.Lists.{take-more, length-take-le}
 use Rattle.std.proofs.shelf.Tests.{and-parts, and-from, eq-eqb, ne-eqb, lt-ltb, ltb-true, leb-true, le-leb}
 use Rattle.record.specs.Refusals.{refuseIf, orElse}
 use Rattle.record.specs.Lists.{every, earliest}
-use Rattle.record.specs.Faults.{kind, middle, low, allowed, within, inOrder, faultAt, byKind, headWithin, choiceWithin, turnWithin, pairWithin, choiceInOrder, turnInOrder, pairInOrder, endInOrder}
+use Rattle.record.specs.Faults.{kind, middle, low, allowed, within, inOrder, faultAt}
 use Rattle.record.specs.Scans.{KindsBelow}
 use Rattle.record.specs.Reading.{ReadTo, PartRead}
 use Rattle.record.proofs.Lists.{every-push, every-weaker, earliest-more, earliest-found}
@@ -124,29 +124,10 @@ fault-of-kind ws k a i g h e lo hi =
     fine = ap (allowed (take i ws) w) (ne-eqb (i + 1) (length ws) (omega arith)) ∙ allowed-middle (take i ws) w long
            ∙ and-from _ _ (le-leb 2 (kind w) (omega arith)) (and-from _ _ (le-leb (kind w) 4 (omega arith)) all)
 
--- The rule for each kind, by the sizes that the head gives.
-module _ (ws : List ℕ) (a i s g : ℕ) (h : i + 1 < length ws) (es : s ≡ middle (getD ws 0 0)) (eg : g ≡ low (getD ws 0 0)) where
-  at-kind : (k : ℕ) → Going ws k a i → kind (getD ws i 0) ≡ k → 2 ≤ k → k ≤ 4
-      → faultAt ws i
-        ≡ orElse (refuseIf (not (byKind k (headWithin (getD ws i 0)) (choiceWithin s g (getD ws i 0)) (turnWithin s g (getD ws i 0)) (pairWithin s g (getD ws i 0)) true)) (3, i))
-          (refuseIf (not (byKind k true (choiceInOrder (take i ws) (getD ws i 0)) (turnInOrder (take i ws)) (pairInOrder (take i ws) (getD ws i 0)) (endInOrder (take i ws) (getD ws i 0)))) (4, i))
-  at-kind k go e lo hi =
-      fault-of-kind ws k a i go h e lo hi
-      ∙ ap (λ j. rule (middle (getD ws 0 0)) (low (getD ws 0 0)) j) e
-      ∙ ap (λ x. rule x (low (getD ws 0 0)) k) (sym es)
-      ∙ ap (λ x. rule s x k) (sym eg)
-    where
-      rule : ℕ → ℕ → ℕ → Option (ℕ × ℕ)
-      rule x y j =
-          let w = getD ws i 0 in
-          orElse (refuseIf (not (byKind j (headWithin w) (choiceWithin x y w) (turnWithin x y w) (pairWithin x y w) true)) (3, i))
-          (refuseIf (not (byKind j true (choiceInOrder (take i ws) w) (turnInOrder (take i ws)) (pairInOrder (take i ws) w) (endInOrder (take i ws) w))) (4, i))
-
-  pub fault-choice : Going ws 2 a i → kind (getD ws i 0) ≡ 2 → faultAt ws i ≡ orElse (refuseIf (not (choiceWithin s g (getD ws i 0))) (3, i)) (refuseIf (not (choiceInOrder (take i ws) (getD ws i 0))) (4, i))
-  fault-choice go e = at-kind 2 go e (omega arith) (omega arith)
-
-  pub fault-turn : Going ws 3 a i → kind (getD ws i 0) ≡ 3 → faultAt ws i ≡ orElse (refuseIf (not (turnWithin s g (getD ws i 0))) (3, i)) (refuseIf (not (turnInOrder (take i ws))) (4, i))
-  fault-turn go e = at-kind 3 go e (omega arith) (omega arith)
-
-  pub fault-pair : Going ws 4 a i → kind (getD ws i 0) ≡ 4 → faultAt ws i ≡ orElse (refuseIf (not (pairWithin s g (getD ws i 0))) (3, i)) (refuseIf (not (pairInOrder (take i ws) (getD ws i 0))) (4, i))
-  fault-pair go e = at-kind 4 go e (omega arith) (omega arith)
+-- the same by the sizes that the head gives
+pub fault-of-part : (ws : List ℕ) (k a i s g : ℕ) → s ≡ middle (getD ws 0 0) → g ≡ low (getD ws 0 0) → Going ws k a i → i + 1 < length ws → kind (getD ws i 0) ≡ k → 2 ≤ k → k ≤ 4
+    → faultAt ws i ≡ orElse (refuseIf (not (within s g (getD ws i 0))) (3, i)) (refuseIf (not (inOrder (take i ws) (getD ws i 0))) (4, i))
+fault-of-part ws k a i s g es eg go h e lo hi =
+    fault-of-kind ws k a i go h e lo hi
+    ∙ ap (λ x. orElse (refuseIf (not (within x (low (getD ws 0 0)) (getD ws i 0))) (3, i)) (refuseIf (not (inOrder (take i ws) (getD ws i 0))) (4, i))) (sym es)
+    ∙ ap (λ x. orElse (refuseIf (not (within s x (getD ws i 0))) (3, i)) (refuseIf (not (inOrder (take i ws) (getD ws i 0))) (4, i))) (sym eg)

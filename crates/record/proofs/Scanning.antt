@@ -14,13 +14,14 @@ use Rattle.std.proofs.shelf.Tests.{and-parts, eq-eqb, ne-eqb, leb-true, ltb-tru
 use Rattle.std.proofs.shelf.Ways.{tells}
 use Rattle.record.specs.Refusals.{refuseIf, orElse}
 use Rattle.record.specs.Lists.{every, among}
-use Rattle.record.specs.Faults.{kind, high, middle, low, ofKind, rankedBy, turnsIn, pairsIn, pairOf, choiceWithin, choiceInOrder, pairWithin, pairInOrder}
+use Rattle.record.specs.Faults.{kind, high, middle, low, ofKind, rankedBy, turnsIn, pairsIn, pairOf, choiceWithin, choiceInOrder, turnWithin, turnInOrder, pairWithin, pairInOrder}
 use Rattle.record.specs.Format.{facing}
 use Rattle.record.specs.Sets.{has}
-use Rattle.record.specs.Scans.{KindsBelow, OwnerSeen, ChoicesSeen, PairsSeen}
+use Rattle.record.specs.Scans.{KindsBelow, OwnerSeen, ChoicesSeen, TurnsSeen, PairsSeen}
 use Rattle.record.specs.declared.members.Members.{Members}
 use Rattle.record.specs.declared.scan.ChoiceScan.{ChoiceScan}
 use Rattle.record.specs.declared.scan.PairScan.{PairScan}
+use Rattle.record.specs.declared.scan.TurnScan.{TurnScan}
 use Rattle.record.proofs.Bits.{or-swap}
 use Rattle.record.proofs.Lists.{kept-none, every-push, among-push}
 
@@ -168,3 +169,13 @@ pair-small s g w b e =
 -- of a word whose bits and numbers are right, the order decides
 pub order-decides : (w o x : Bool) (p q : ℕ × ℕ) → w ≡ true → o ≡ x → orElse (refuseIf (not w) p) (refuseIf (not o) q) ≡ refuseIf (not x) q
 order-decides w o x p q e f = ap (λ b. orElse (refuseIf (not b) p) (refuseIf (not o) q)) e ∙ ap (λ b. refuseIf (not b) q) f
+
+-- Before the first turn nothing is seen, and one more turn is one more.
+pub no-turn-seen : (ws : List ℕ) → KindsBelow 3 ws → TurnsSeen (record { count = 0 }) ws
+no-turn-seen ws b = record { count = sym (ap (λ l. length (map low l)) (ofKind-none 3 3 ws (omega arith) b)) }
+
+pub one-more-turn : (scan : TurnScan) (ws : List ℕ) (w : ℕ) → kind w ≡ 3 → TurnsSeen scan ws → TurnsSeen (record { count = scan .count + 1 }) (ws ++ w ∷ [])
+one-more-turn scan ws w e seen = record { count = ap (λ x. x + 1) (seen .count) ∙ sym (ap length (turnsIn-push ws w e) ∙ length-push (turnsIn ws) (low w)) }
+
+pub turn-order : (scan : TurnScan) (ws : List ℕ) → TurnsSeen scan ws → turnInOrder ws ≡ ltb (scan .count) 7600
+turn-order scan ws seen = ap (λ x. ltb x 7600) (sym (seen .count))

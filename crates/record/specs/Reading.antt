@@ -26,3 +26,14 @@ pub record PartRead (ws : List ℕ) (k a n : ℕ) : Type 0 where
   pub from : a ≤ n
   pub reached : ReadTo ws (k + 1) n
   pub kinds : every (λ w. eqb (kind w) k) (between a n ws) ≡ true
+
+-- the parts of a content's record, each with the place of its first word; an empty part's place is where it would begin
+pub record PartsOf (c : Content) (s g : ℕ) (choices : ℕ × List ℕ) (turns : ℕ × List ℕ) (pairs : ℕ × List ℕ) : Type 0 where
+  pub streams : s ≡ c .streams
+  pub lanes : g ≡ c .lanes
+  pub choices-at : choices .0 ≡ 1
+  pub choice-words : choices .1 ≡ choiceWords (c .ranked) (parties c)
+  pub turns-at : turns .0 ≡ choices .0 + length (choices .1)
+  pub turn-words : turns .1 ≡ map turnWord (c .turns)
+  pub pairs-at : pairs .0 ≡ turns .0 + length (turns .1)
+  pub pair-words : pairs .1 ≡ map pairWord (c .pairs)

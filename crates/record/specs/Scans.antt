@@ -7,9 +7,10 @@ use lib.ListN.{length}
 use lib.Dec.{leb, ltb}
 use Rattle.record.specs.Sets.{has}
 use Rattle.record.specs.Lists.{every, among}
-use Rattle.record.specs.Faults.{kind, ofKind, high, rankedBy, pairsIn}
+use Rattle.record.specs.Faults.{kind, ofKind, high, rankedBy, turnsIn, pairsIn}
 use Rattle.record.specs.declared.scan.ChoiceScan.{ChoiceScan}
 use Rattle.record.specs.declared.scan.PairScan.{PairScan}
+use Rattle.record.specs.declared.scan.TurnScan.{TurnScan}
 
 -- every word is of a kind below k
 abbrev pub KindsBelow : ℕ → List ℕ → Type 0
@@ -24,6 +25,10 @@ pub record OwnerSeen (scan : ChoiceScan) (before : List ℕ) : Type 0 where
 pub record ChoicesSeen (scan : ChoiceScan) (before : List ℕ) : Type 0 where
   pub owners : (k : ℕ) → every (λ v. leb (high v) k) (ofKind 2 before) ≡ leb (scan .owner) k
   pub latest : OwnerSeen scan before
+
+-- `count` is the number of turns
+pub record TurnsSeen (scan : TurnScan) (before : List ℕ) : Type 0 where
+  pub count : scan .count ≡ length (turnsIn before)
 
 -- the streams lie below `floor`, and no lower number would do; `given` are the lanes
 pub record PairsSeen (scan : PairScan) (before : List ℕ) : Type 0 where

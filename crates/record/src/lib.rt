@@ -6,4 +6,5 @@ pub mod bytes;
 pub mod word;
 mod scan;
 mod order;
+mod part;
 pub mod read;

@@ -4,16 +4,20 @@ ghost use mathlib.Core.Bool.{not};
 ghost use Prim.Native.Nat.{ℕ, _+_, _<_, _≤_};
 ghost use Rattle.std.specs.declared.option.Option.the-variants.{None};
 ghost use Rattle.record.specs.Refusals.{refusedBy, refuseIf, orElse};
-ghost use Rattle.record.specs.Faults.{choiceWithin, choiceInOrder, pairWithin, pairInOrder, kind, high};
-ghost use Rattle.record.specs.Scans.{KindsBelow, OwnerSeen, ChoicesSeen, PairsSeen};
+ghost use Rattle.record.specs.Faults.{choiceWithin, choiceInOrder, turnWithin, turnInOrder, pairWithin, pairInOrder, kind, high};
+ghost use Rattle.record.specs.Scans.{KindsBelow, OwnerSeen, ChoicesSeen, TurnsSeen, PairsSeen};
 use crate::members::Members;
 use crate::refusal::Refusal;
 use crate::scan::ChoiceScan;
 use crate::scan::PairScan;
 use crate::scan::Sizes;
+use crate::scan::TurnScan;
 use crate::word::high_byte;
 use crate::word::low_byte;
 use crate::word::middle_byte;
+
+/// The most turns of a record.
+pub const MOST_TURNS: u16 = 7600;
 
 // Whether a choice has no unnamed bit, and its owner and ranked party are parties of the two sides.
 fn choice_within(sizes: Sizes, word: u32) -> bool
@@ -68,6 +72,31 @@ impl ChoiceScan {
         scan.next += 1;
         scan.named.insert(ranked);
         *self = scan;
+        Ok(())
+    }
+}
+
+impl TurnScan {
+    /// Before the first turn.
+    pub fn new() -> TurnScan
+        ensures has_seen_no_turn { λ r. ⌜ ((before : List ℕ) → KindsBelow 3 before → TurnsSeen r before) ⌝ }
+    {
+        TurnScan { count: 0 }
+    }
+
+    /// Reads one more turn, the word at `at`.
+    pub fn turn(&mut self, sizes: Sizes, word: u32, at: u16) -> Result<(), Refusal>
+        requires is_a_turn { ⌜ kind word ≡ 3 ⌝ }
+        ensures refused_as_told { λ r. ⌜ ((before : List ℕ) → TurnsSeen (now (self .entry)) before → refusedBy r ≡ orElse (refuseIf (not (turnWithin (sizes .streams) (sizes .lanes) word)) (3, at)) (refuseIf (not (turnInOrder before)) (4, at))) ⌝ }
+        ensures has_seen_one_more { λ r. ⌜ ((before : List ℕ) → TurnsSeen (now (self .entry)) before → refusedBy r ≡ None → TurnsSeen (now (self .exit)) (before ++ word ∷ [])) ⌝ }
+    {
+        if (word >> 8) % 0x10_0000 != 0 || low_byte(word) >= sizes.streams + sizes.lanes {
+            return Err(Refusal::Limit(at));
+        }
+        if self.count >= MOST_TURNS {
+            return Err(Refusal::Order(at));
+        }
+        self.count += 1;
         Ok(())
     }
 }

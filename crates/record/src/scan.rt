@@ -17,6 +17,12 @@ pub struct ChoiceScan {
     pub named: Members,
 }
 
+/// What a reader keeps of the turns so far: their count.
+#[derive(Clone, Copy)]
+pub struct TurnScan {
+    pub count: u16,
+}
+
 /// What a reader keeps of the pairs so far: the lowest stream that may come next, and the lanes given.
 #[derive(Clone, Copy)]
 pub struct PairScan {
