@@ -4,3 +4,6 @@ pub mod Scanning
 pub mod Passing
 pub mod Bounds
 pub mod Wording
+pub mod Extracts
+pub mod Contents
+pub mod Faultless

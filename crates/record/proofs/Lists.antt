@@ -11,7 +11,7 @@ use lib.Dec.{eqb, leb, ltb}
 use Rattle.std.specs.declared.option.Option.{Option}
 use Rattle.std.specs.declared.option.Option.the-variants.{None, Some}
 use Rattle.std.specs.shelf.Lists.{kept-by, All}
-use Rattle.std.proofs.shelf.Tests.{and-parts, or-parts, cases-order, false≢true, eqb-false, ne-eqb, eqb-true}
+use Rattle.std.proofs.shelf.Tests.{and-parts, or-parts, or-from, cases-order, cond-both, not-true, not-false, eqb-false, ne-eqb, eqb-true}
 use Rattle.std.proofs.shelf.Ways.{tells}
 use Rattle.record.specs.Refusals.{orElse}
 use Rattle.record.specs.Lists.{every, among, Distinct, earliest}
@@ -110,3 +110,49 @@ earliest-none f (suc n) e i h =
 pub none-earliest : (f : ℕ → Option (ℕ × ℕ)) (n : ℕ) → ((i : ℕ) → i < n → f i ≡ None) → earliest f n ≡ None
 none-earliest f zero g = refl
 none-earliest f (suc n) g = ap (λ o. orElse o (f n)) (none-earliest f n (λ i h. g i (omega arith))) ∙ g n (omega arith)
+
+-- Distinct numbers below n are at most n.
+other : ℕ → ℕ → Bool
+other n x = not (eqb x n)
+
+among-kept : (x : ℕ) (p : ℕ → Bool) (xs : List ℕ) → among x xs ≡ false → among x (kept-by p xs) ≡ false
+among-kept x p [] e = refl
+among-kept x p (y ∷ ys) e =
+    let q = or-parts (eqb x y) (among x ys) e in
+    cond-both (p y) (y ∷ kept-by p ys) (kept-by p ys) (λ l. among x l ≡ false) (λ _. or-from _ _ (q .0) (among-kept x p ys (q .1))) (λ _. among-kept x p ys (q .1))
+
+distinct-kept : (p : ℕ → Bool) (xs : List ℕ) → Distinct xs → Distinct (kept-by p xs)
+distinct-kept p [] d = tt
+distinct-kept p (x ∷ xs) d =
+    cond-both (p x) (x ∷ kept-by p xs) (kept-by p xs) Distinct (λ _. (among-kept x p xs (d .0), distinct-kept p xs (d .1))) (λ _. distinct-kept p xs (d .1))
+
+below-kept : (n : ℕ) (xs : List ℕ) → All (λ x. x < suc n) xs → All (λ x. x < n) (kept-by (other n) xs)
+unfolding other
+below-kept n [] a = tt
+below-kept n (x ∷ xs) a =
+    cond-both (other n x) (x ∷ kept-by (other n) xs) (kept-by (other n) xs) (All (λ y. y < n))
+    (λ e. let h = a .0 in let ne = eqb-false x n (not-true (eqb x n) e) in (omega arith, below-kept n xs (a .1)))
+    (λ _. below-kept n xs (a .1))
+
+kept-absent : (n : ℕ) (xs : List ℕ) → among n xs ≡ false → kept-by (other n) xs ≡ xs
+unfolding other
+kept-absent n [] e = refl
+kept-absent n (x ∷ xs) e =
+    let q = or-parts (eqb n x) (among n xs) e in
+    let ne : eqb x n ≡ false = ne-eqb x n (λ s. eqb-false n x (q .0) (sym s)) in
+    ap (λ b. cond (not b) (x ∷ kept-by (other n) xs) (kept-by (other n) xs)) ne ∙ ap (λ l. x ∷ l) (kept-absent n xs (q .1))
+
+one-dropped : (n : ℕ) (xs : List ℕ) → Distinct xs → length xs ≤ suc (length (kept-by (other n) xs))
+unfolding other
+one-dropped n [] d = omega arith
+one-dropped n (x ∷ xs) d =
+    cond-both (other n x) (x ∷ kept-by (other n) xs) (kept-by (other n) xs) (λ l. suc (length xs) ≤ suc (length l))
+    (λ _. omega (arith, one-dropped n xs (d .1)))
+    (λ e. let s : x ≡ n = eqb-true x n (not-false (eqb x n) e) in
+          omega (arith, ap length (kept-absent n xs (ap (λ y. among y xs) (sym s) ∙ d .0))))
+
+pub few-distinct : (n : ℕ) (xs : List ℕ) → Distinct xs → All (λ x. x < n) xs → length xs ≤ n
+few-distinct zero [] d a = omega arith
+few-distinct zero (x ∷ xs) d a = absurd (let h = a .0 in omega arith)
+few-distinct (suc n) xs d a =
+    omega (arith, one-dropped n xs d, few-distinct n (kept-by (other n) xs) (distinct-kept (other n) xs d) (below-kept n xs a))

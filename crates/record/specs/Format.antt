@@ -85,3 +85,11 @@ recordWords c = bodyWords c ++ endWord (length (bodyWords c)) ∷ []
 pub record Records (ws : List ℕ) (c : Content) : Type 0 where
   pub lawful : Lawful c
   pub words : ws ≡ recordWords c
+
+-- One list of words is the record of at most one content.
+abbrev pub OneContent : Type 0
+OneContent = (ws : List ℕ) (c d : Content) → Records ws c → Records ws d → c ≡ d
+
+-- One content has at most one record.
+abbrev pub OneRecord : Type 0
+OneRecord = (c : Content) (ws vs : List ℕ) → Records ws c → Records vs c → ws ≡ vs
