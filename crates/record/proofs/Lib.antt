@@ -7,3 +7,4 @@ pub mod Wording
 pub mod Extracts
 pub mod Contents
 pub mod Faultless
+pub mod Lawfuls
