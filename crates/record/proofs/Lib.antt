@@ -8,3 +8,4 @@ pub mod Extracts
 pub mod Contents
 pub mod Faultless
 pub mod Lawfuls
+pub mod Partings

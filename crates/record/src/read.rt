@@ -2,12 +2,13 @@ ghost use mathlib.Core.Path.{_≡_};
 ghost use mathlib.Core.Bool.{not, true};
 ghost use Prim.Native.Nat.{ℕ, _+_, _<_, _≤_};
 ghost use lib.ListN.{length, getD};
-ghost use Rattle.std.specs.Results.{Cases};
+ghost use Rattle.std.specs.Results.{Cases, isOk};
 ghost use Rattle.std.specs.declared.option.Option.the-variants.{None, Some};
 ghost use Rattle.record.specs.Refusals.{refusedBy, codeOf};
 ghost use Rattle.record.specs.Lists.{earliest};
 ghost use Rattle.record.specs.Faults.{kind, middle, low, headWithin, faultAt, recordFault};
-ghost use Rattle.record.specs.Reading.{ReadTo};
+ghost use Rattle.record.specs.Format.{Content, Records, OneContent, OneRecord};
+ghost use Rattle.record.specs.Reading.{ReadTo, PartsOf};
 use crate::bytes::FEWEST_WORDS;
 use crate::bytes::MOST_WORDS;
 use crate::refusal::Refusal;
@@ -83,9 +84,10 @@ pub struct Parts<'a> {
     pub pairs: Part<'a>,
 }
 
-/// Reads a record: one pass over its words. Refuses 1 for the length, else the earliest faulty word.
-pub fn read(words: &[u32]) -> Result<Parts<'_>, Refusal>
+// Reads the parts, one after the other: the first fault found is the one answered.
+fn read_parts(words: &[u32]) -> Result<Parts<'_>, Refusal>
     ensures refused_as_told { λ r. ⌜ refusedBy r ≡ recordFault (now (words .entry)) ⌝ }
+    ensures parts_of_the_content { λ r. ⌜ Cases r (λ p. ((c : Content) × (Records (now (words .entry)) c × PartsOf c (p .streams) (p .lanes) (p .choices .at, now (p .choices .words)) (p .turns .at, now (p .turns .words)) (p .pairs .at, now (p .pairs .words))))) (λ _. Unit {0}) ⌝ }
 {
     if words.len() < FEWEST_WORDS || words.len() > MOST_WORDS {
         return Err(Refusal::Length);
@@ -99,4 +101,15 @@ pub fn read(words: &[u32]) -> Result<Parts<'_>, Refusal>
     let turns = Part { at: turns_at, words: &words[turns_at..pairs_at] };
     let pairs = Part { at: pairs_at, words: &words[pairs_at..end_at] };
     Ok(Parts { streams: sizes.streams, lanes: sizes.lanes, choices, turns, pairs })
+}
+
+/// Reads a record in one pass over its words. Refuses 1 for its length, else 2, 3 or 4 for the earliest faulty word.
+pub fn read(words: &[u32]) -> Result<Parts<'_>, Refusal>
+    ensures refused_as_told { λ r. ⌜ refusedBy r ≡ recordFault (now (words .entry)) ⌝ }
+    ensures parts_of_the_content { λ r. ⌜ Cases r (λ p. ((c : Content) × (Records (now (words .entry)) c × PartsOf c (p .streams) (p .lanes) (p .choices .at, now (p .choices .words)) (p .turns .at, now (p .turns .words)) (p .pairs .at, now (p .pairs .words))))) (λ _. Unit {0}) ⌝ }
+    ensures reads_every_record { λ r. ⌜ ((c : Content) → Records (now (words .entry)) c → isOk r ≡ true) ⌝ }
+    ensures one_content_a_record { λ _. ⌜ OneContent ⌝ }
+    ensures one_record_a_content { λ _. ⌜ OneRecord ⌝ }
+{
+    read_parts(words)
 }
