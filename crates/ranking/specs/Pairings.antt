@@ -17,11 +17,15 @@ abbrev pub wrongAt : ℕ → List ℕ → ℕ → Bool
 wrongAt g bytes i =
     cond (ltb (getD bytes i 0) g) (among (getD bytes i 0) (take i bytes)) (not (eqb (getD bytes i 0) 255))
 
+-- what refuses the byte of stream i
+abbrev pub streamFault : ℕ → List ℕ → ℕ → Option (ℕ × ℕ)
+streamFault g bytes i = refuseIf (wrongAt g bytes i) (8, i)
+
 -- what refuses a pairing, always with number 8: at place 255 a list that is not s bytes long, then at
 -- the lowest stream whose byte is wrong
 abbrev pub pairingFault : (s g : ℕ) → List ℕ → Option (ℕ × ℕ)
 pairingFault s g bytes =
-    orElse (refuseIf (not (eqb (length bytes) s)) (8, 255)) (earliest (λ i. refuseIf (wrongAt g bytes i) (8, i)) s)
+    orElse (refuseIf (not (eqb (length bytes) s)) (8, 255)) (earliest (streamFault g bytes) s)
 
 -- what a pairing keeps
 pub record LawfulPairing (s g : ℕ) (bytes : List ℕ) : Type 0 where

@@ -8,6 +8,9 @@ use record::refusal::Refusal;
 /// The byte that stands for nobody.
 pub const NOBODY: u8 = 255;
 
+/// The place of a refusal of the list's length.
+const WHOLE_LIST: u8 = 255;
+
 /// The most lanes.
 pub const MOST_LANES: usize = 16;
 
@@ -17,12 +20,13 @@ pub fn lane_streams<R: Ranking>(ranking: &R, pairing: &[u8]) -> Result<[u8; MOST
     ensures refused_as_told { λ r. ⌜ refusedBy r ≡ pairingFault (streamsOf (now (ranking .entry))) (lanesOf (now (ranking .entry))) (now (pairing .entry)) ⌝ }
     ensures table_as_told { λ r. ⌜ Cases r (λ table. TableOf (now (pairing .entry)) table) (λ _. Unit {0}) ⌝ }
 {
-    if pairing.len() != ranking.streams() as usize {
-        return Err(Refusal::Pairing(255));
-    }
+    let streams = ranking.streams();
     let lanes = ranking.lanes();
+    if pairing.len() != streams as usize {
+        return Err(Refusal::Pairing(WHOLE_LIST));
+    }
     let mut table = [NOBODY; MOST_LANES];
-    for stream in 0..ranking.streams() {
+    for stream in 0..streams {
         let lane = pairing[stream as usize];
         if lane < lanes {
             if table[lane as usize] != NOBODY {

@@ -1,0 +1,93 @@
+-- What a pairing that is not refused keeps, and the table of the lanes' streams.
+use mathlib.Core.Path.{_≡_, refl, sym, ap, _∙_}
+use mathlib.Core.List.{List, [], _∷_, _++_}
+use mathlib.Core.Bool.{Bool, true, false, cond, not}
+use mathlib.Core.Logic.{_⊎_, inl, inr, ⊎-elim, _≢_}
+use Prim.Native.Nat.{ℕ, zero, suc, _+_, _-_, _<_, _≤_}
+use native.Mathlib.Omega.{arith}
+use lib.Dec.{eqb, ltb}
+use lib.ListN.{length, getD, take, set}
+use Rattle.std.specs.Options.{isSome}
+use Rattle.std.specs.declared.option.Option.{Option}
+use Rattle.std.specs.declared.option.Option.the-variants.{None, Some}
+use Rattle.std.proofs.shelf.Lists.{take-more, take-all, getD-take, length-take-le, length-set, getD-set-same, getD-set-other}
+use Rattle.std.proofs.shelf.Tests.{eq-eqb, ne-eqb, eqb-true, lt-ltb, le-ltb, cond-true, cond-false, cases-eq, cases-order, both-ways}
+use Rattle.std.proofs.shelf.Ways.{tells}
+use Rattle.record.specs.Refusals.{orElse, refuseIf}
+use Rattle.record.specs.Lists.{among, placeIn, earliest}
+use Rattle.ranking.specs.Pairings.{wrongAt, streamFault, pairingFault, LawfulPairing, laneParty, holdingOf, streamNamed, TableOf}
+use Rattle.ranking.proofs.Places.{among-place, among-from, place-at, place-push-other, place-push-new, earliest-more, earliest-none, earliest-all, earliest-at}
+
+-- a byte that is right refuses nothing, and one that is wrong refuses
+pub no-stream-fault : (g : ℕ) (bytes : List ℕ) (i : ℕ) → wrongAt g bytes i ≡ false → streamFault g bytes i ≡ None
+no-stream-fault g bytes i e = ap (λ b. refuseIf b (8, i)) e
+
+pub stream-fault : (g : ℕ) (bytes : List ℕ) (i : ℕ) → wrongAt g bytes i ≡ true → streamFault g bytes i ≡ Some (8, i)
+stream-fault g bytes i e = ap (λ b. refuseIf b (8, i)) e
+
+-- when the byte of a stream is wrong, by what it names
+pub wrong-lane : (g : ℕ) (bytes : List ℕ) (i : ℕ) → getD bytes i 0 < g → wrongAt g bytes i ≡ among (getD bytes i 0) (take i bytes)
+wrong-lane g bytes i h = cond-true (ltb (getD bytes i 0) g) _ _ (lt-ltb (getD bytes i 0) g h)
+
+pub wrong-none : (g : ℕ) (bytes : List ℕ) (i : ℕ) → g ≤ getD bytes i 0 → wrongAt g bytes i ≡ not (eqb (getD bytes i 0) 255)
+wrong-none g bytes i h = cond-false (ltb (getD bytes i 0) g) _ _ (le-ltb (getD bytes i 0) g h)
+
+-- a lane is among the bytes where its place in the table names a stream
+pub table-among : (bytes table : List ℕ) (j : ℕ) → TableOf bytes table → j < 16 → among j bytes ≡ not (eqb (getD table j 0) 255)
+table-among bytes table j t h = among-place j bytes ∙ ap isSome (sym (t .each j h)) ∙ go (eqb (getD table j 0) 255)
+  where
+    go : (b : Bool) → isSome (cond b None (Some (getD table j 0))) ≡ not b
+    go true = refl
+    go false = refl
+
+-- one more stream, whose byte names a lane that nobody had
+pub table-push : (xs table : List ℕ) (lane : ℕ) → TableOf xs table → lane < 16 → length xs < 255 → getD table lane 0 ≡ 255 → TableOf (xs ++ lane ∷ []) (set table lane (length xs))
+table-push xs table lane t h l free = record { count = length-set table lane (length xs) ∙ t .count; each = λ j b. go j b (cases-eq j lane) }
+  where
+    empty : placeIn lane xs ≡ None
+    empty = sym (t .each lane h) ∙ ap streamNamed free
+    at-lane : streamNamed (getD (set table lane (length xs)) lane 0) ≡ placeIn lane (xs ++ lane ∷ [])
+    at-lane =
+        let b : lane < length table = rw (t .count) h in
+        let n : length xs ≡ 255 → ⊥ = λ e. omega arith in
+        ap streamNamed (getD-set-same table lane (length xs) 0 b)
+        ∙ cond-false (eqb (length xs) 255) None (Some (length xs)) (ne-eqb (length xs) 255 n)
+        ∙ sym (place-push-new lane xs empty)
+    go : (j : ℕ) → j < 16 → (j ≡ lane) ⊎ (j ≡ lane → ⊥) → streamNamed (getD (set table lane (length xs)) j 0) ≡ placeIn j (xs ++ lane ∷ [])
+    go j b (inl e) = rw e at-lane
+    go j b (inr n) = ap streamNamed (getD-set-other table lane j (length xs) 0 n) ∙ t .each j b ∙ sym (place-push-other j lane xs (ne-eqb j lane n))
+
+-- one more stream, whose byte names no lane
+pub table-skip : (xs table : List ℕ) (byte : ℕ) → TableOf xs table → 16 ≤ byte → TableOf (xs ++ byte ∷ []) table
+table-skip xs table byte t h =
+    record { count = t .count; each = λ j b. t .each j b ∙ sym (place-push-other j byte xs (ne-eqb j byte (λ e. omega arith))) }
+
+-- the pairing is refused at the first stream whose byte is wrong
+pub fault-at : (s g : ℕ) (bytes : List ℕ) (i : ℕ) → length bytes ≡ s → i < s → earliest (streamFault g bytes) i ≡ None → wrongAt g bytes i ≡ true → pairingFault s g bytes ≡ Some (8, i)
+fault-at s g bytes i n h e w =
+    ap (λ b. orElse (refuseIf (not b) (8, 255)) (earliest (streamFault g bytes) s)) (eq-eqb (length bytes) s n)
+    ∙ earliest-at (streamFault g bytes) s i (8, i) h e (stream-fault g bytes i w)
+
+-- the pairing is not refused where no stream's byte is wrong
+pub fault-none : (s g : ℕ) (bytes : List ℕ) → length bytes ≡ s → earliest (streamFault g bytes) s ≡ None → pairingFault s g bytes ≡ None
+fault-none s g bytes n e =
+    ap (λ b. orElse (refuseIf (not b) (8, 255)) (earliest (streamFault g bytes) s)) (eq-eqb (length bytes) s n) ∙ e
+
+-- what is known once the streams below i are read
+abbrev pub ReadTo : (g : ℕ) (bytes : List ℕ) (i : ℕ) (table : List ℕ) → Type 0
+ReadTo g bytes i table = (earliest (streamFault g bytes) i ≡ None) × TableOf (take i bytes) table
+
+pub read-lane : (g : ℕ) (bytes : List ℕ) (i : ℕ) (table : List ℕ) → g ≤ 16 → i < length bytes → i < 255 → getD bytes i 0 < g → getD table (getD bytes i 0) 0 ≡ 255 → ReadTo g bytes i table → ReadTo g bytes (i + 1) (set table (getD bytes i 0) i)
+read-lane g bytes i table l h m b free r =
+    let lane = getD bytes i 0 in
+    let n : length (take i bytes) ≡ i = length-take-le i bytes (omega arith) in
+    let a : among lane (take i bytes) ≡ false = table-among (take i bytes) table lane (r .1) (omega arith) ∙ ap not (eq-eqb (getD table lane 0) 255 free) in
+    let t = table-push (take i bytes) table lane (r .1) (omega arith) (omega arith) free in
+    let u : TableOf (take i bytes ++ lane ∷ []) (set table lane i) = rw n at t in
+    (earliest-more (streamFault g bytes) i (r .0) (no-stream-fault g bytes i (wrong-lane g bytes i b ∙ a)),
+     rw (take-more bytes i 0 h) u)
+
+pub read-nobody : (g : ℕ) (bytes : List ℕ) (i : ℕ) (table : List ℕ) → g ≤ 16 → i < length bytes → getD bytes i 0 ≡ 255 → ReadTo g bytes i table → ReadTo g bytes (i + 1) table
+read-nobody g bytes i table l h e r =
+    (earliest-more (streamFault g bytes) i (r .0) (no-stream-fault g bytes i (wrong-none g bytes i (omega arith) ∙ ap not (eq-eqb (getD bytes i 0) 255 e))),
+     rw (take-more bytes i 0 h) (table-skip (take i bytes) table (getD bytes i 0) (r .1) (omega arith)))
