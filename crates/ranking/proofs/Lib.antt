@@ -1,2 +1,5 @@
 pub mod Places
 pub mod Pairings
+pub mod Holdings
+pub mod Markets
+pub mod Blocking

@@ -11,12 +11,12 @@ use Rattle.std.specs.Options.{isSome}
 use Rattle.std.specs.declared.option.Option.{Option}
 use Rattle.std.specs.declared.option.Option.the-variants.{None, Some}
 use Rattle.std.proofs.shelf.Lists.{take-more, take-all, getD-take, length-take-le, length-set, getD-set-same, getD-set-other}
-use Rattle.std.proofs.shelf.Tests.{eq-eqb, ne-eqb, eqb-true, lt-ltb, le-ltb, cond-true, cond-false, cases-eq, cases-order, both-ways}
+use Rattle.std.proofs.shelf.Tests.{eq-eqb, ne-eqb, eqb-true, lt-ltb, le-ltb, cond-true, cond-false, cases-eq, cases-lt, cases-order, both-ways, not-false}
 use Rattle.std.proofs.shelf.Ways.{tells}
 use Rattle.record.specs.Refusals.{orElse, refuseIf}
 use Rattle.record.specs.Lists.{among, placeIn, earliest}
 use Rattle.ranking.specs.Pairings.{wrongAt, streamFault, pairingFault, LawfulPairing, laneParty, holdingOf, streamNamed, TableOf}
-use Rattle.ranking.proofs.Places.{among-place, among-from, place-at, place-push-other, place-push-new, earliest-more, earliest-none, earliest-all, earliest-at}
+use Rattle.ranking.proofs.Places.{among-place, among-from, place-at, place-push-other, place-push-new, or-none, earliest-more, earliest-none, earliest-all, earliest-at}
 
 -- a byte that is right refuses nothing, and one that is wrong refuses
 pub no-stream-fault : (g : ℕ) (bytes : List ℕ) (i : ℕ) → wrongAt g bytes i ≡ false → streamFault g bytes i ≡ None
@@ -91,3 +91,49 @@ pub read-nobody : (g : ℕ) (bytes : List ℕ) (i : ℕ) (table : List ℕ) → 
 read-nobody g bytes i table l h e r =
     (earliest-more (streamFault g bytes) i (r .0) (no-stream-fault g bytes i (wrong-none g bytes i (omega arith) ∙ ap not (eq-eqb (getD bytes i 0) 255 e))),
      rw (take-more bytes i 0 h) (table-skip (take i bytes) table (getD bytes i 0) (r .1) (omega arith)))
+
+refuse-none : (b : Bool) (code : ℕ × ℕ) → refuseIf b code ≡ None → b ≡ false
+refuse-none true code e = cc
+refuse-none false code e = refl
+
+-- a pairing that is not refused is lawful
+pub lawful-from-fault : (s g : ℕ) (bytes : List ℕ) → pairingFault s g bytes ≡ None → LawfulPairing s g bytes
+lawful-from-fault s g bytes e =
+    record { count = many; named = λ i h. names i h (cases-lt (getD bytes i 0) g); once = λ i j a b l q. single i j a b l q (cases-order i j) }
+  where
+    parts : (refuseIf (not (eqb (length bytes) s)) (8, 255) ≡ None) × (earliest (streamFault g bytes) s ≡ None)
+    parts = or-none (refuseIf (not (eqb (length bytes) s)) (8, 255)) (earliest (streamFault g bytes) s) e
+    many : length bytes ≡ s
+    many = eqb-true (length bytes) s (not-false (eqb (length bytes) s) (refuse-none (not (eqb (length bytes) s)) (8, 255) (parts .0)))
+    right : (i : ℕ) → i < s → wrongAt g bytes i ≡ false
+    right i h = refuse-none (wrongAt g bytes i) (8, i) (earliest-none (streamFault g bytes) s (parts .1) i h)
+    names : (i : ℕ) → i < s → (getD bytes i 0 < g) ⊎ (g ≤ getD bytes i 0) → (getD bytes i 0 < g) ⊎ (getD bytes i 0 ≡ 255)
+    names i h (inl l) = inl l
+    names i h (inr l) = inr (eqb-true (getD bytes i 0) 255 (not-false (eqb (getD bytes i 0) 255) (sym (wrong-none g bytes i l) ∙ right i h)))
+    earlier : (i j : ℕ) → i < j → j < s → getD bytes j 0 < g → getD bytes i 0 ≡ getD bytes j 0 → ⊥
+    earlier i j l h b q =
+        let n : i < length (take j bytes) = rw (length-take-le j bytes (omega (arith, many))) l in
+        both-ways (among (getD bytes j 0) (take j bytes)) (sym (wrong-lane g bytes j b) ∙ right j h)
+        (among-from (getD bytes j 0) (take j bytes) i n (getD-take j bytes i 0 l ∙ q))
+    single : (i j : ℕ) → i < s → j < s → getD bytes i 0 < g → getD bytes i 0 ≡ getD bytes j 0 → (i ≡ j) ⊎ ((i < j) ⊎ (j < i)) → i ≡ j
+    single i j a b l q (inl same) = same
+    single i j a b l q (inr (inl low)) = absurd (earlier i j low b (omega arith) q)
+    single i j a b l q (inr (inr low)) = absurd (earlier j i low a l (sym q))
+
+-- a lawful pairing is not refused
+pub fault-from-lawful : (s g : ℕ) (bytes : List ℕ) → LawfulPairing s g bytes → pairingFault s g bytes ≡ None
+fault-from-lawful s g bytes p =
+    fault-none s g bytes (p .count) (earliest-all (streamFault g bytes) s (λ i h. no-stream-fault g bytes i (right i h (cases-lt (getD bytes i 0) g) (p .named i h))))
+  where
+    free : (i : ℕ) → i < s → getD bytes i 0 < g → (o : Option ℕ) → placeIn (getD bytes i 0) (take i bytes) ≡ o → isSome o ≡ false
+    free i h l None e = refl
+    free i h l (Some k) e =
+        let at = place-at (getD bytes i 0) (take i bytes) k e in
+        let n : length (take i bytes) ≡ i = length-take-le i bytes (omega (arith, p .count)) in
+        let b : k < i = omega (arith, at .0) in
+        let q : getD bytes k 0 ≡ getD bytes i 0 = sym (getD-take i bytes k 0 b) ∙ at .1 in
+        absurd (omega (arith, p .once k i (omega arith) h (omega arith) q))
+    right : (i : ℕ) → i < s → (getD bytes i 0 < g) ⊎ (g ≤ getD bytes i 0) → (getD bytes i 0 < g) ⊎ (getD bytes i 0 ≡ 255) → wrongAt g bytes i ≡ false
+    right i h (inl l) _ = wrong-lane g bytes i l ∙ among-place (getD bytes i 0) (take i bytes) ∙ free i h l (placeIn (getD bytes i 0) (take i bytes)) refl
+    right i h (inr l) (inl m) = absurd (omega arith)
+    right i h (inr l) (inr e) = wrong-none g bytes i l ∙ ap not (eq-eqb (getD bytes i 0) 255 e)

@@ -65,7 +65,7 @@ place-push-new x (z ∷ zs) e = go (eqb x z) e (place-push-new x zs)
     go true e f = absurd (let z : _≡_ {A = ℕ} 0 1 = cc in omega arith)
     go false e f = ap next (f (next-none (placeIn x zs) e)) ∙ ap Some (add-one (length zs))
 
-or-none : (a b : Option (ℕ × ℕ)) → orElse a b ≡ None → (a ≡ None) × (b ≡ None)
+pub or-none : (a b : Option (ℕ × ℕ)) → orElse a b ≡ None → (a ≡ None) × (b ≡ None)
 or-none None b e = (refl, e)
 or-none (Some c) b e = absurd (let z : _≡_ {A = ℕ} 0 1 = cc in omega arith)
 

@@ -50,24 +50,35 @@ pub record Stable (m : Market) (h : ℕ → Option ℕ) : Type 0 where
   pub ranked : (p : ℕ) → heldRanked m h p ≡ true
   pub unblocked : (p q : ℕ) → blocks m h p q ≡ false
 
+-- each stream below n holds nobody, or somebody where both rank each other
+abbrev pub RankedBelow : Market → (ℕ → Option ℕ) → ℕ → Type 0
+RankedBelow m h n = (k : ℕ) → k < n → heldRanked m h k ≡ true
+
+-- no stream below n blocks with any lane
+abbrev pub UnblockedBelow : Market → (ℕ → Option ℕ) → ℕ → Type 0
+UnblockedBelow m h n = (k l : ℕ) → k < n → l < m .lanes → blocks m h k (m .streams + l) ≡ false
+
+-- stream i blocks with no lane below n
+abbrev pub UnblockedBefore : Market → (ℕ → Option ℕ) → ℕ → ℕ → Type 0
+UnblockedBefore m h i n = (l : ℕ) → l < n → blocks m h i (m .streams + l) ≡ false
+
 -- stream i is the lowest that holds somebody where one of the two does not rank the other
-pub record UnrankedAt (m : Market) (h : ℕ → Option ℕ) (i : ℕ) : Type 0 where
+pub record FirstUnranked (m : Market) (h : ℕ → Option ℕ) (i : ℕ) : Type 0 where
   pub stream : i < m .streams
   pub unranked : heldRanked m h i ≡ false
-  pub above : (k : ℕ) → k < i → heldRanked m h k ≡ true
+  pub above : RankedBelow m h i
 
--- all whom the streams hold are ranked, by both sides, and stream i with lane j is the first pair that
--- blocks, by the stream and then by the lane
-pub record BlockedAt (m : Market) (h : ℕ → Option ℕ) (i j : ℕ) : Type 0 where
-  pub ranked : (k : ℕ) → k < m .streams → heldRanked m h k ≡ true
+-- stream i and lane j are the first pair that blocks, by the stream and then by the lane
+pub record FirstBlocking (m : Market) (h : ℕ → Option ℕ) (i j : ℕ) : Type 0 where
   pub stream : i < m .streams
   pub lane : j < m .lanes
   pub blocking : blocks m h i (m .streams + j) ≡ true
-  pub above : (k l : ℕ) → k < i → l < m .lanes → blocks m h k (m .streams + l) ≡ false
-  pub before : (l : ℕ) → l < j → blocks m h i (m .streams + l) ≡ false
+  pub above : UnblockedBelow m h i
+  pub before : UnblockedBefore m h i j
 
--- what each answer of the finder says
+-- what each answer of the finder says: a stable holding; the first stream whose holding is not ranked
+-- by both sides; or where all are, the first pair that blocks
 abbrev pub Found : Market → (ℕ → Option ℕ) → Finding → Type 0
 Found m h Finding.Stable = Stable m h
-Found m h (Finding.Unranked i) = UnrankedAt m h i
-Found m h (Finding.Blocked i j) = BlockedAt m h i j
+Found m h (Finding.Unranked i) = FirstUnranked m h i
+Found m h (Finding.Blocked i j) = RankedBelow m h (m .streams) × FirstBlocking m h i j

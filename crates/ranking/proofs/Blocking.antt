@@ -1,0 +1,1 @@
+-- Which pairs can block.
