@@ -14,7 +14,7 @@ use Rattle.std.proofs.shelf.Tests.{lt-ltb, le-ltb, eqb-true, cond-true, cond-fa
 use Rattle.record.specs.Lists.{placeIn}
 use Rattle.ranking.specs.Market.{Market, marketOf, prefers, Sized, Bounded, Strict, StreamAndLane, LawfulMarket}
 use Rattle.ranking.specs.Pairings.{LawfulPairing, laneParty, holdingOf, streamNamed, TableOf}
-use Rattle.ranking.specs.Stability.{rankOf, heldRank, wants, isParty, holds, blocks, ranksBoth, heldRanked, Stable, RankedBelow, UnblockedBelow}
+use Rattle.ranking.specs.Stability.{rankOf, heldRank, wants, isParty, holds, blocks, ranksBoth, heldRanked, Stable, RankedBelow, UnblockedBelow, UnblockedBefore}
 use Rattle.ranking.proofs.Places.{place-at}
 use Rattle.ranking.proofs.Holdings.{Has, holding-stream, holding-lane, holding-tells, holding-mutual}
 use Rattle.ranking.proofs.Markets.{rank-stream, rank-lane}
@@ -82,6 +82,10 @@ module _ (m : Market) (h : ℕ → Option ℕ) where
           let w = prefers-some (m .rank p q) (heldRank m h p) (and-parts (wants m h p q) (wants m h q p) (sym (blocks-wants p q) ∙ e) .0) in
           ⊎-elim (pair p q) (λ t. blocks-swap p q ∙ pair q p t) (between p q (w .0) (w .1))
 
+-- one more stream that blocks with no lane
+pub unblocked-more : (m : Market) (h : ℕ → Option ℕ) (i n : ℕ) → m .lanes ≤ n → UnblockedBelow m h i → UnblockedBefore m h i n → UnblockedBelow m h (i + 1)
+unblocked-more m h i n b above before k l p q = ⊎-elim (λ r. above k l r q) (λ r. let e : i ≡ k = omega arith in rw (← e) (before l (omega arith))) (cases-lt k i)
+
 -- a table gives no rank past its columns
 no-rank : (rows columns : ℕ) (table : ℕ → ℕ → Option ℕ) (i j : ℕ) → Bounded rows columns table → columns ≤ j → table i j ≡ None
 no-rank rows columns table i j b h = go (table i j) refl
@@ -125,6 +129,13 @@ module _ (s g : ℕ) (byStream byLane : ℕ → ℕ → Option ℕ) (bytes : Lis
       ∙ ap (λ o. prefers (byStream i j) o && wants m held (s + j) i) (stream-held i bs h)
       ∙ ap (λ o. prefers (byStream i j) (byStream i (getD bytes i 0)) && prefers o (heldRank m held (s + j))) (rank-lane s byStream byLane j i h)
       ∙ ap (λ o. prefers (byStream i j) (byStream i (getD bytes i 0)) && prefers (byLane j i) o) (lane-held table j a c bl p t l)
+
+  -- the same of a test that compared these ranks, with the stream's own rank read before
+  pub pair-tested : (table : List ℕ) (i j : ℕ) (held : Option ℕ) (test : Bool) → Sized s g → Bounded s g byStream × Bounded g s byLane → LawfulPairing s g bytes → TableOf bytes table → i < s → j < g → held ≡ byStream i (getD bytes i 0) → test ≡ (prefers (byStream i j) held && prefers (byLane j i) (byLane j (getD table j 0))) → blocks (marketOf s g byStream byLane) (holdingOf s g bytes) i (s + j) ≡ test
+  pair-tested table i j held test z b p t h l read is =
+      pair-blocks table i j (z .1) (z .3) (b .0) (b .1) p t h l
+      ∙ ap (λ o. prefers (byStream i j) o && prefers (byLane j i) (byLane j (getD table j 0))) (sym read)
+      ∙ sym is
 
   -- whether a stream and the lane that it holds rank each other, by the tables
   pub stream-ranked : (i : ℕ) → i < s → getD bytes i 0 < g → heldRanked (marketOf s g byStream byLane) (holdingOf s g bytes) i ≡ (isSome (byStream i (getD bytes i 0)) && isSome (byLane (getD bytes i 0) i))
