@@ -3,3 +3,4 @@ pub mod Pairings
 pub mod Holdings
 pub mod Markets
 pub mod Blocking
+pub mod Findings
