@@ -1,22 +1,21 @@
 -- Which pairs can block, and when a holding is stable.
 use mathlib.Core.Path.{_≡_, refl, sym, ap, _∙_}
 use mathlib.Core.List.{List}
-use mathlib.Core.Bool.{Bool, true, false, cond, not, _&&_}
+use mathlib.Core.Bool.{Bool, true, false, not, _&&_}
 use mathlib.Core.Logic.{_⊎_, inl, inr, ⊎-elim}
 use Prim.Native.Nat.{ℕ, _+_, _-_, _<_, _≤_}
 use native.Mathlib.Omega.{arith}
 use lib.Dec.{eqb, ltb}
-use lib.ListN.{length, getD}
+use lib.ListN.{getD}
 use Rattle.std.specs.Options.{isSome}
 use Rattle.std.specs.declared.option.Option.{Option}
 use Rattle.std.specs.declared.option.Option.the-variants.{None, Some}
-use Rattle.std.proofs.shelf.Tests.{lt-ltb, le-ltb, eqb-true, cond-true, cond-false, cases-lt, cases-bool, both-ways, and-parts, and-from, and-left, and-right}
-use Rattle.record.specs.Lists.{placeIn}
-use Rattle.ranking.specs.Market.{Market, marketOf, prefers, Sized, Bounded, Strict, StreamAndLane, LawfulMarket}
+use Rattle.std.proofs.shelf.Tests.{lt-ltb, le-ltb, eqb-true, cond-true, cond-false, cases-lt, cases-bool, both-ways, and-parts}
+use Rattle.ranking.specs.Market.{Market, marketOf, prefers, Sized, Bounded, StreamAndLane, LawfulMarket}
 use Rattle.ranking.specs.Pairings.{LawfulPairing, laneParty, holdingOf, streamNamed, TableOf}
 use Rattle.ranking.specs.Stability.{rankOf, heldRank, wants, isParty, holds, blocks, ranksBoth, heldRanked, Stable, RankedBelow, UnblockedBelow, UnblockedBefore}
 use Rattle.ranking.proofs.Places.{place-at}
-use Rattle.ranking.proofs.Holdings.{Has, holding-stream, holding-lane, holding-tells, holding-mutual}
+use Rattle.ranking.proofs.Holdings.{holding-stream, holding-lane, holding-tells, holding-mutual}
 use Rattle.ranking.proofs.Markets.{rank-stream, rank-lane}
 
 -- no rank is better than itself
@@ -73,10 +72,12 @@ module _ (m : Market) (h : ℕ → Option ℕ) where
           (λ l. ranks p l)
           (λ l. ap (ranksBoth m p) e ∙ and-swap (isSome (m .rank p q)) (isSome (m .rank q p)) ∙ sym (ap (ranksBoth m q) (returned p q e)) ∙ ranks q l)
           (sides p q e)
+
       pair : (p q : ℕ) → StreamAndLane m p q → blocks m h p q ≡ false
       pair p q t =
           let e : m .streams + (q - m .streams) ≡ q = omega arith in
           ap (blocks m h p) (sym e) ∙ clear p (q - m .streams) (t .0) (omega arith)
+
       wanted : (p q : ℕ) → blocks m h p q ≡ true → blocks m h p q ≡ false
       wanted p q e =
           let w = prefers-some (m .rank p q) (heldRank m h p) (and-parts (wants m h p q) (wants m h q p) (sym (blocks-wants p q) ∙ e) .0) in
@@ -102,6 +103,7 @@ module _ (s g : ℕ) (byStream byLane : ℕ → ℕ → Option ℕ) (bytes : Lis
     where
       named : getD bytes i 0 < g → rankOf (marketOf s g byStream byLane .rank i) (laneParty s g (getD bytes i 0)) ≡ byStream i (getD bytes i 0)
       named l = ap (rankOf (marketOf s g byStream byLane .rank i)) (cond-true (ltb (getD bytes i 0) g) _ _ (lt-ltb (getD bytes i 0) g l)) ∙ rank-stream s byStream byLane i (getD bytes i 0) h
+
       nobody : g ≤ getD bytes i 0 → rankOf (marketOf s g byStream byLane .rank i) (laneParty s g (getD bytes i 0)) ≡ byStream i (getD bytes i 0)
       nobody l = ap (rankOf (marketOf s g byStream byLane .rank i)) (cond-false (ltb (getD bytes i 0) g) _ _ (le-ltb (getD bytes i 0) g l)) ∙ sym (no-rank s g byStream i (getD bytes i 0) b l)
 
@@ -113,6 +115,7 @@ module _ (s g : ℕ) (byStream byLane : ℕ → ℕ → Option ℕ) (bytes : Lis
       nobody e =
           ap (rankOf (marketOf s g byStream byLane .rank (s + j))) (cond-true (eqb (getD table j 0) 255) _ _ e)
           ∙ sym (no-rank g s byLane j (getD table j 0) b (omega (arith, eqb-true (getD table j 0) 255 e)))
+
       named : eqb (getD table j 0) 255 ≡ false → rankOf (marketOf s g byStream byLane .rank (s + j)) (streamNamed (getD table j 0)) ≡ byLane j (getD table j 0)
       named e =
           let n : streamNamed (getD table j 0) ≡ Some (getD table j 0) = cond-false (eqb (getD table j 0) 255) _ _ e in
@@ -137,15 +140,17 @@ module _ (s g : ℕ) (byStream byLane : ℕ → ℕ → Option ℕ) (bytes : Lis
       ∙ ap (λ o. prefers (byStream i j) o && prefers (byLane j i) (byLane j (getD table j 0))) (sym read)
       ∙ sym is
 
-  -- whether a stream and the lane that it holds rank each other, by the tables
-  pub stream-ranked : (i : ℕ) → i < s → getD bytes i 0 < g → heldRanked (marketOf s g byStream byLane) (holdingOf s g bytes) i ≡ (isSome (byStream i (getD bytes i 0)) && isSome (byLane (getD bytes i 0) i))
-  stream-ranked i h l =
+  -- whether a stream and the lane that it holds rank each other, by a test of the tables
+  pub stream-tested : (i : ℕ) (test : Bool) → i < s → getD bytes i 0 < g → test ≡ (isSome (byStream i (getD bytes i 0)) && isSome (byLane (getD bytes i 0) i)) → heldRanked (marketOf s g byStream byLane) (holdingOf s g bytes) i ≡ test
+  stream-tested i test h l is =
       let m = marketOf s g byStream byLane in
       let lane = getD bytes i 0 in
       ap (ranksBoth m i) (holding-stream s g bytes i h ∙ cond-true (ltb lane g) _ _ (lt-ltb lane g l))
       ∙ ap (λ o. isSome o && isSome (m .rank (s + lane) i)) (rank-stream s byStream byLane i lane h)
       ∙ ap (λ o. isSome (byStream i lane) && isSome o) (rank-lane s byStream byLane lane i h)
+      ∙ sym is
 
+  -- a stream that holds nobody has nobody to rank
   pub stream-alone : (i : ℕ) → i < s → g ≤ getD bytes i 0 → heldRanked (marketOf s g byStream byLane) (holdingOf s g bytes) i ≡ true
   stream-alone i h l =
       ap (ranksBoth (marketOf s g byStream byLane) i) (holding-stream s g bytes i h ∙ cond-false (ltb (getD bytes i 0) g) _ _ (le-ltb (getD bytes i 0) g l))

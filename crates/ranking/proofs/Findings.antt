@@ -1,12 +1,11 @@
 -- What the finder's answer decides.
 use mathlib.Core.Path.{_≡_, refl, sym}
-use mathlib.Core.Bool.{Bool, true, false}
 use mathlib.Core.Logic.{_↔_}
 use Prim.Native.Nat.{ℕ, _+_}
 use native.Mathlib.Omega.{arith}
 use Rattle.std.specs.Results.{Cases}
 use Rattle.std.specs.declared.option.Option.{Option}
-use Rattle.std.specs.declared.option.Option.the-variants.{None, Some}
+use Rattle.std.specs.declared.option.Option.the-variants.{None}
 use Rattle.std.specs.declared.result.Result.{Result}
 use Rattle.std.specs.declared.result.Result.the-variants.{Ok, Err}
 use Rattle.std.proofs.shelf.Tests.{both-ways}
@@ -23,6 +22,7 @@ stable-answer m h fault (Err f) e found = (λ q. absurd (let z : _≡_ {A = ℕ}
 stable-answer m h fault (Ok Finding.Stable) e found = (λ q. (sym e, found), λ t. refl)
 stable-answer m h fault (Ok (Finding.Unranked i)) e found =
     (λ q. absurd (let z : _≡_ {A = ℕ} 0 1 = cc in omega arith), λ t. absurd (both-ways (heldRanked m h i) (found .unranked) (t .1 .ranked i)))
-stable-answer m h fault (Ok (Finding.Blocked i j)) e found =
-    ( λ q. absurd (let z : _≡_ {A = ℕ} 0 1 = cc in omega arith),
-      λ t. absurd (both-ways (blocks m h i (m .streams + j)) (t .1 .unblocked i (m .streams + j)) (found .1 .blocking)) )
+stable-answer m h fault (Ok (Finding.Blocked i j)) e found = (
+  λ q. absurd (let z : _≡_ {A = ℕ} 0 1 = cc in omega arith),
+  λ t. absurd (both-ways (blocks m h i (m .streams + j)) (t .1 .unblocked i (m .streams + j)) (found .1 .blocking)),
+)

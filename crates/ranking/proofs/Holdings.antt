@@ -1,17 +1,17 @@
 -- Whom each party holds under a lawful pairing: a stream and a lane, each the other.
 use mathlib.Core.Path.{_≡_, refl, sym, ap, _∙_}
 use mathlib.Core.List.{List}
-use mathlib.Core.Bool.{Bool, true, false, cond}
+use mathlib.Core.Bool.{true}
 use mathlib.Core.Logic.{_⊎_, inl, inr, ⊎-elim}
 use Prim.Native.Nat.{ℕ, _+_, _-_, _<_, _≤_}
 use native.Mathlib.Omega.{arith}
-use lib.Dec.{eqb, ltb}
-use lib.ListN.{length, getD}
+use lib.Dec.{ltb}
+use lib.ListN.{getD}
 use Rattle.std.specs.Options.{isSome}
 use Rattle.std.specs.declared.option.Option.{Option}
 use Rattle.std.specs.declared.option.Option.the-variants.{None, Some}
 use Rattle.std.proofs.shelf.Tests.{lt-ltb, le-ltb, cond-true, cond-false, cases-lt}
-use Rattle.record.specs.Lists.{among, placeIn}
+use Rattle.record.specs.Lists.{placeIn}
 use Rattle.ranking.specs.Pairings.{LawfulPairing, laneParty, holdingOf}
 use Rattle.ranking.proofs.Places.{among-place, among-from, place-at}
 
@@ -45,6 +45,7 @@ has-lane s g bytes i j p t = holding-lane s g bytes j (t .1) ∙ go (placeIn j b
   where
     there : isSome (placeIn j bytes) ≡ true
     there = sym (among-place j bytes) ∙ among-from j bytes i (omega (arith, p .count)) (t .2)
+
     go : (o : Option ℕ) → placeIn j bytes ≡ o → o ≡ Some i
     go None e = let x : isSome {T = ℕ} None ≡ true = rw e at there in cc
     go (Some k) e =
@@ -60,19 +61,23 @@ holding-tells s g bytes p q l e = ⊎-elim stream (λ b. ⊎-elim (lane b) (λ c
       where
         in-lane : byte < g → q ≡ s + byte
         in-lane b = let c : laneParty s g byte ≡ Some (s + byte) = cond-true (ltb byte g) _ _ (lt-ltb byte g b) in cc
+
         no-lane : g ≤ byte → ⊥
         no-lane b =
             let c : laneParty s g byte ≡ None = cond-false (ltb byte g) _ _ (le-ltb byte g b) in
             let z : _≡_ {A = ℕ} 0 1 = cc in
             omega arith
+
     stream : p < s → ((j : ℕ) × (q ≡ s + j) × Has s g bytes p j) ⊎ ((j : ℕ) × (p ≡ s + j) × Has s g bytes q j)
     stream b = let n = named (getD bytes p 0) (sym (holding-stream s g bytes p b) ∙ e) in inl (getD bytes p 0, n .1, (b, n .0, refl))
+
     lane : s ≤ p → p < s + g → ((j : ℕ) × (q ≡ s + j) × Has s g bytes p j) ⊎ ((j : ℕ) × (p ≡ s + j) × Has s g bytes q j)
     lane b c =
         let d : s + (p - s) ≡ p = omega arith in
         let k = holding-lane s g bytes (p - s) (omega arith) in
         let at = place-at (p - s) bytes q (sym k ∙ ap (holdingOf s g bytes) d ∙ e) in
         inr (p - s, sym d, (omega (arith, at .0, l .count), omega arith, at .1))
+
     outside : s ≤ p → s + g ≤ p → ((j : ℕ) × (q ≡ s + j) × Has s g bytes p j) ⊎ ((j : ℕ) × (p ≡ s + j) × Has s g bytes q j)
     outside b c = let n = holding-outside s g bytes p c in let z : _≡_ {A = ℕ} 0 1 = cc in absurd (omega arith)
 

@@ -1,6 +1,6 @@
 -- What the market of two tables ranks, and that it is lawful where the tables are.
-use mathlib.Core.Path.{_≡_, refl, sym, ap, _∙_}
-use mathlib.Core.Bool.{Bool, true, false, cond}
+use mathlib.Core.Path.{_≡_, sym, ap, _∙_}
+use mathlib.Core.Bool.{cond}
 use mathlib.Core.Logic.{_⊎_, inl, inr, ⊎-elim}
 use Prim.Native.Nat.{ℕ, _+_, _-_, _<_, _≤_}
 use native.Mathlib.Omega.{arith}
@@ -8,7 +8,7 @@ use lib.Dec.{ltb}
 use Rattle.std.specs.declared.option.Option.{Option}
 use Rattle.std.specs.declared.option.Option.the-variants.{None, Some}
 use Rattle.std.proofs.shelf.Tests.{lt-ltb, le-ltb, cond-true, cond-false, cases-lt}
-use Rattle.ranking.specs.Market.{rankAcross, marketOf, Strict, Sized, Bounded, StreamAndLane, LawfulMarket}
+use Rattle.ranking.specs.Market.{rankAcross, marketOf, Strict, Sized, Bounded, LawfulMarket}
 
 module _ (s : ℕ) (byStream byLane : ℕ → ℕ → Option ℕ) where
   -- what a stream ranks
@@ -35,13 +35,16 @@ module _ (s : ℕ) (byStream byLane : ℕ → ℕ → Option ℕ) where
     where
       by-stream : p < s → s ≤ q → byStream p (q - s) ≡ Some k
       by-stream a b = sym (stream-ranks p q a ∙ cond-false (ltb q s) _ _ (le-ltb q s b)) ∙ e
+
       by-lane : s ≤ p → q < s → byLane (p - s) q ≡ Some k
       by-lane a b = sym (lane-ranks p q a ∙ cond-true (ltb q s) _ _ (lt-ltb q s b)) ∙ e
+
       same-streams : p < s → q < s → ⊥
       same-streams a b =
           let n = stream-ranks p q a ∙ cond-true (ltb q s) _ _ (lt-ltb q s b) in
           let z : _≡_ {A = ℕ} 0 1 = cc in
           omega arith
+
       same-lanes : s ≤ p → s ≤ q → ⊥
       same-lanes a b =
           let n = lane-ranks p q a ∙ cond-false (ltb q s) _ _ (le-ltb q s b) in
@@ -51,16 +54,17 @@ module _ (s : ℕ) (byStream byLane : ℕ → ℕ → Option ℕ) where
 -- the market of two lawful tables is lawful
 pub lawful-market : (s g : ℕ) (byStream byLane : ℕ → ℕ → Option ℕ) → Sized s g → Bounded s g byStream → Bounded g s byLane → Strict byStream → Strict byLane → LawfulMarket (marketOf s g byStream byLane)
 lawful-market s g byStream byLane z bs bl ss sl = record {
-    sized = z;
-    across = λ p q k e. ⊎-elim
+  sized = z;
+  across = λ p q k e. ⊎-elim
       (λ t. let b = bs p (q - s) k (t .2) in inl (t .0, t .1, omega arith))
       (λ t. let b = bl (p - s) q k (t .2) in inr (t .1, t .0, omega arith))
       (rank-tells s byStream byLane p q k e);
-    bounded = λ p q k e. ⊎-elim
+  bounded = λ p q k e. ⊎-elim
       (λ t. bs p (q - s) k (t .2) .2)
       (λ t. bl (p - s) q k (t .2) .2)
       (rank-tells s byStream byLane p q k e);
-    strict = λ p q r k e f. ⊎-elim
+  strict = λ p q r k e f. ⊎-elim
       (λ t. ⊎-elim (λ u. let n = ss p (q - s) (r - s) k (t .2) (u .2) in omega arith) (λ u. absurd (omega arith)) (rank-tells s byStream byLane p r k f))
       (λ t. ⊎-elim (λ u. absurd (omega arith)) (λ u. sl (p - s) q r k (t .2) (u .2)) (rank-tells s byStream byLane p r k f))
-      (rank-tells s byStream byLane p q k e) }
+      (rank-tells s byStream byLane p q k e);
+}

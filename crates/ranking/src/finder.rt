@@ -61,15 +61,28 @@ fn first_unranked<R: Ranking>(ranking: &R, pairing: &[u8]) -> Option<u8>
 
 // Whether a stream ranks a lane better than `held`, and the lane ranks the stream better than its own
 // stream `lane_has`, 255 for nobody.
-fn want_each_other<R: Ranking>(ranking: &R, stream: u8, lane: u8, held: Option<u16>, lane_has: u8) -> bool
+fn want_each_other<R: Ranking>(
+    ranking: &R,
+    stream: u8,
+    lane: u8,
+    held: Option<u16>,
+    lane_has: u8,
+) -> bool
     ensures each_prefers_the_other { λ r. ⌜ r ≡ (prefers (byStream (now (ranking .entry)) stream lane) held && prefers (byLane (now (ranking .entry)) lane stream) (byLane (now (ranking .entry)) lane «lane_has»)) ⌝ }
 {
     is_better(ranking.rank_by_stream(stream, lane), held)
-        && is_better(ranking.rank_by_lane(lane, stream), ranking.rank_by_lane(lane, lane_has))
+        && is_better(
+            ranking.rank_by_lane(lane, stream),
+            ranking.rank_by_lane(lane, lane_has),
+        )
 }
 
 // The first stream and lane that block the pairing, by the stream and then by the lane.
-fn first_blocking<R: Ranking>(ranking: &R, pairing: &[u8], table: &[u8; MOST_LANES]) -> Option<(u8, u8)>
+fn first_blocking<R: Ranking>(
+    ranking: &R,
+    pairing: &[u8],
+    table: &[u8; MOST_LANES],
+) -> Option<(u8, u8)>
     requires not_refused { ⌜ pairingFault (streamsOf (now ranking)) (lanesOf (now ranking)) (now pairing) ≡ None ⌝ }
     requires table_as_told { ⌜ TableOf (now pairing) (now table) ⌝ }
     ensures is_the_first_blocking { λ r. ⌜ BySome r (UnblockedBelow (marketOf (streamsOf (now (ranking .entry))) (lanesOf (now (ranking .entry))) (byStream (now (ranking .entry))) (byLane (now (ranking .entry)))) (holdingOf (streamsOf (now (ranking .entry))) (lanesOf (now (ranking .entry))) (now (pairing .entry))) (streamsOf (now (ranking .entry)))) (λ p. FirstBlocking (marketOf (streamsOf (now (ranking .entry))) (lanesOf (now (ranking .entry))) (byStream (now (ranking .entry))) (byLane (now (ranking .entry)))) (holdingOf (streamsOf (now (ranking .entry))) (lanesOf (now (ranking .entry))) (now (pairing .entry))) (p .0) (p .1)) ⌝ }

@@ -1,7 +1,7 @@
 ghost use mathlib.Core.Path.{_≡_};
 ghost use Prim.Native.Nat.{ℕ};
 ghost use Rattle.std.specs.declared.option.Option.{Option};
-ghost use Rattle.ranking.specs.Market.{Sized, Bounded, Strict};
+ghost use Rattle.ranking.specs.Market.{Sized, Bounded, Strict, marketOf};
 
 /// The ranks of 1 to 16 streams and 1 to 16 lanes: each side ranks the other, and a lower rank is better.
 pub trait Ranking {
@@ -38,4 +38,18 @@ pub trait Ranking {
     /// The rank that a lane gives a stream, or none.
     fn rank_by_lane(&self, lane: u8, stream: u8) -> Option<u16>
         ensures is_the_lanes_rank { λ r. ⌜ r ≡ byLane (now (self .entry)) lane stream ⌝ };
+}
+
+/// The rank that a party gives another, by party numbers: stream i is party i, and lane j is party s + j.
+pub fn rank_between<R: Ranking>(ranking: &R, party: u8, other: u8) -> Option<u16>
+    ensures is_the_rank { λ r. ⌜ r ≡ marketOf (streamsOf (now (ranking .entry))) (lanesOf (now (ranking .entry))) (byStream (now (ranking .entry))) (byLane (now (ranking .entry))) .rank party other ⌝ }
+{
+    let streams = ranking.streams();
+    if party < streams && streams <= other {
+        ranking.rank_by_stream(party, other - streams)
+    } else if streams <= party && other < streams {
+        ranking.rank_by_lane(party - streams, other)
+    } else {
+        None
+    }
 }

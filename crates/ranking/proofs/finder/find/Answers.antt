@@ -1,4 +1,5 @@
-use mathlib.Core.Path.{_≡_, sym}
+use mathlib.Core.Path.{sym}
+use Rattle.std.specs.declared.option.Option.the-variants.{None}
 use Rattle.std.specs.declared.result.Result.the-variants.{Ok}
 use Rattle.ranking.specs.Market.{marketOf}
 use Rattle.ranking.specs.Pairings.{pairingFault, holdingOf}
@@ -21,9 +22,10 @@ returns-in-None g c =
     let lawful = lawful-market s n (R .byStream x) (R .byLane x) (met .sized x) (met .bounded x .0) (met .bounded x .1) (met .strict x .0) (met .strict x .1) in
     let fine = c .in-Continue-table .ensures tt .refused-as-told in
     let stable : Stable (marketOf s n (R .byStream x) (R .byLane x)) (holdingOf s n bytes) =
-        stable-pairing s n (R .byStream x) (R .byLane x) bytes lawful (lawful-from-fault s n bytes (sym fine))
-        (c .in-rest .ensures tt .is-the-first-unranked) (c .in-None .ensures tt .is-the-first-blocking) in
+    stable-pairing s n (R .byStream x) (R .byLane x) bytes lawful (lawful-from-fault s n bytes (sym {a = None} {b = pairingFault s n bytes} fine))
+    (c .in-rest .ensures tt .is-the-first-unranked) (c .in-None .ensures tt .is-the-first-blocking) in
     record {
       refused-as-told = fine;
       found-as-told = stable;
-      stable-exactly-when = stable-answer (marketOf s n (R .byStream x) (R .byLane x)) (holdingOf s n bytes) (pairingFault s n bytes) (Ok Finding.Stable) fine stable }
+      stable-exactly-when = stable-answer (marketOf s n (R .byStream x) (R .byLane x)) (holdingOf s n bytes) (pairingFault s n bytes) (Ok Finding.Stable) fine stable;
+    }

@@ -1,11 +1,10 @@
 use mathlib.Core.Path.{_≡_, sym, ap, _∙_}
 use mathlib.Core.Bool.{not, true}
-use Prim.Native.Nat.{_<_, _≤_}
 use native.Mathlib.Omega.{arith}
-use lib.ListN.{length, getD, take}
+use lib.ListN.{getD, take}
 use Rattle.std.proofs.shelf.Lists.{take-all}
 use Rattle.std.proofs.shelf.Tests.{ne-eqb}
-use Rattle.ranking.specs.Pairings.{TableOf, wrongAt}
+use Rattle.ranking.specs.Pairings.{wrongAt}
 use Rattle.ranking.proofs.Pairings.{wrong-lane, wrong-none, table-among, fault-at, fault-none, ReadTo, read-lane, read-nobody}
 use Rattle.ranking.proofs.pairing.lane_streams.Needs as need
 use Rattle.ranking.proofs.pairing.lane_streams.Needs.{then-lane-lanes·else-table-lane, else-lane-lanes·else-lane}
@@ -41,10 +40,11 @@ loop-stream-again g c =
     let table = c .loop-stream .table in
     let r : ReadTo lanes bytes i table = c .loop-stream .inv in
     elim (c .if-lane-lanes .came) [
-      then-lane-lanes·else-table-lane w ↦
-        rw (w .table-is) (read-lane lanes bytes i table (omega arith) (omega arith) (omega arith) (omega arith) (w .if-table-lane .left) r)
-    | else-lane-lanes·else-lane w ↦
-        rw (w .table-is) (read-nobody lanes bytes i table (omega arith) (omega arith) (w .if-lane .left) r) ]
+      | then-lane-lanes·else-table-lane w ↦
+          rw (w .table-is) (read-lane lanes bytes i table (omega arith) (omega arith) (omega arith) (omega arith) (w .if-table-lane .left) r)
+      | else-lane-lanes·else-lane w ↦
+          rw (w .table-is) (read-nobody lanes bytes i table (omega arith) (omega arith) (w .if-lane .left) r)
+    ]
 
 pub returns : need.returns
 returns g c =
@@ -57,4 +57,5 @@ returns g c =
     let right = c .loop-stream .inv .1 in
     record {
       refused-as-told = sym (fault-none streams lanes bytes (omega arith) (rw e at none));
-      table-as-told = rw (take-all (c .loop-stream .stream) bytes (omega arith)) at right }
+      table-as-told = rw (take-all (c .loop-stream .stream) bytes (omega arith)) at right;
+    }
