@@ -40,7 +40,7 @@ pub record LawfulPairing (s g : ℕ) (bytes : List ℕ) : Type 0 where
 abbrev pub laneParty : (s g : ℕ) → ℕ → Option ℕ
 laneParty s g byte = cond (ltb byte g) (Some (s + byte)) None
 
--- whom each party holds under a pairing, by party numbers: a stream the lane that its byte names, and
+-- whom each party holds under a lawful pairing, by party numbers: a stream the lane that its byte names, and
 -- a lane the stream at whose place the lane's number stands
 abbrev pub holdingOf : (s g : ℕ) → List ℕ → ℕ → Option ℕ
 holdingOf s g bytes p =

@@ -59,8 +59,8 @@ fn first_unranked<R: Ranking>(ranking: &R, pairing: &[u8]) -> Option<u8>
     None
 }
 
-// Whether a stream ranks a lane better than `held`, and the lane ranks the stream better than its own
-// stream `lane_has`, 255 for nobody.
+// Whether a stream ranks a lane better than `held`, the rank of the lane that it has, and the lane ranks
+// the stream better than `lane_has`, the stream that it has, 255 for nobody.
 fn want_each_other<R: Ranking>(
     ranking: &R,
     stream: u8,
@@ -78,6 +78,7 @@ fn want_each_other<R: Ranking>(
 }
 
 // The first stream and lane that block the pairing, by the stream and then by the lane.
+// `table` has the stream of each lane. The byte 255, for nobody, has no rank, as it is past the sizes.
 fn first_blocking<R: Ranking>(
     ranking: &R,
     pairing: &[u8],
@@ -90,11 +91,11 @@ fn first_blocking<R: Ranking>(
     let streams = ranking.streams();
     let lanes = ranking.lanes();
     let mut found = None;
-    'search: for i in 0..streams {
-        let held = ranking.rank_by_stream(i, pairing[i as usize]);
-        for j in 0..lanes {
-            if want_each_other(ranking, i, j, held, table[j as usize]) {
-                found = Some((i, j));
+    'search: for stream in 0..streams {
+        let held = ranking.rank_by_stream(stream, pairing[stream as usize]);
+        for lane in 0..lanes {
+            if want_each_other(ranking, stream, lane, held, table[lane as usize]) {
+                found = Some((stream, lane));
                 break 'search;
             }
         }

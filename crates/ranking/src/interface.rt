@@ -17,10 +17,13 @@ pub trait Ranking {
     /// The rank that lane j gives stream i, at `byLane x j i`.
     ghost byLane: { Self → ℕ → ℕ → Option ℕ };
 
+    // There are 1 to 16 streams and 1 to 16 lanes.
     law sized: { (x : Self) → Sized (streamsOf x) (lanesOf x) };
 
+    // A rank is given only to a lane or a stream that there is, and is at most 65,535.
     law bounded: { (x : Self) → Bounded (streamsOf x) (lanesOf x) (byStream x) × Bounded (lanesOf x) (streamsOf x) (byLane x) };
 
+    // Nobody gives two others the same rank.
     law strict: { (x : Self) → Strict (byStream x) × Strict (byLane x) };
 
     /// The number of streams.

@@ -10,22 +10,22 @@ use Rattle.ranking.proofs.Pairings.{lawful-from-fault}
 use Rattle.ranking.proofs.Blocking.{pair-tested, unblocked-more}
 use Rattle.ranking.proofs.finder.first_blocking.Needs as need
 
-pub loop-j-again : need.loop-j-again
-loop-j-again g c =
+pub loop-lane-again : need.loop-lane-again
+loop-lane-again g c =
     let R = g .R·Ranking in
     let x = c .args .ranking .now in
     let s = R .streamsOf x in
     let n = R .lanesOf x in
     let bytes = c .args .pairing .now in
-    let i = c .search .i in
-    let j = c .loop-j .j in
+    let i = c .search .stream in
+    let j = c .loop-lane .lane in
     let Clear : ℕ → Type 0 = λ l. blocks (marketOf s n (R .byStream x) (R .byLane x)) (holdingOf s n bytes) i (s + l) ≡ false in
     let here : Clear j =
     pair-tested s n (R .byStream x) (R .byLane x) bytes (c .args .table .now) i j (c .rank-by-stream-held .result) (c .want-each-other .result)
     (g .R·Ranking·met .sized x) (g .R·Ranking·met .bounded x) (lawful-from-fault s n bytes (c .pre .not-refused)) (c .pre .table-as-told)
     (omega arith) (omega arith) (c .rank-by-stream-held .ensures .is-the-streams-rank) (c .want-each-other .ensures .each-prefers-the-other)
     ∙ c .if-want-each-other .left in
-    (c .loop-j .inv .0, below-more Clear j (c .loop-j .inv .1) here)
+    (c .loop-lane .inv .0, below-more Clear j (c .loop-lane .inv .1) here)
 
 pub search-again : need.search-again
 search-again g c =
@@ -33,9 +33,9 @@ search-again g c =
     let x = c .args .ranking .now in
     let s = R .streamsOf x in
     let n = R .lanesOf x in (
-      c .loop-j .inv .0,
-      unblocked-more (marketOf s n (R .byStream x) (R .byLane x)) (holdingOf s n (c .args .pairing .now)) (c .search .i) (c .loop-j .j) (omega arith)
-          (c .search .inv .1) (c .loop-j .inv .1),
+      c .loop-lane .inv .0,
+      unblocked-more (marketOf s n (R .byStream x) (R .byLane x)) (holdingOf s n (c .args .pairing .now)) (c .search .stream) (c .loop-lane .lane) (omega arith)
+          (c .search .inv .1) (c .loop-lane .inv .1),
     )
 
 pub returns-then-want-each-other : need.returns-then-want-each-other
@@ -50,11 +50,11 @@ returns-then-want-each-other g c =
         stream = omega arith;
         lane = omega arith;
         blocking =
-            pair-tested s n (R .byStream x) (R .byLane x) bytes (c .args .table .now) (c .search .i) (c .loop-j .j) (c .rank-by-stream-held .result) (c .want-each-other .result)
+            pair-tested s n (R .byStream x) (R .byLane x) bytes (c .args .table .now) (c .search .stream) (c .loop-lane .lane) (c .rank-by-stream-held .result) (c .want-each-other .result)
             (g .R·Ranking·met .sized x) (g .R·Ranking·met .bounded x) (lawful-from-fault s n bytes (c .pre .not-refused)) (c .pre .table-as-told)
             (omega arith) (omega arith) (c .rank-by-stream-held .ensures .is-the-streams-rank) (c .want-each-other .ensures .each-prefers-the-other)
             ∙ c .if-want-each-other .taken;
         above = c .search .inv .1;
-        before = c .loop-j .inv .1;
+        before = c .loop-lane .inv .1;
       };
     }
