@@ -1,0 +1,6 @@
+pub mod Places
+pub mod Pairings
+pub mod Holdings
+pub mod Markets
+pub mod Blocking
+pub mod Findings

@@ -1,0 +1,22 @@
+use mathlib.Core.Path.{_≡_}
+use Rattle.std.specs.declared.option.Option.the-variants.{None}
+use Rattle.ranking.specs.Market.{marketOf}
+use Rattle.ranking.specs.Pairings.{holdingOf}
+use Rattle.ranking.specs.Stability.{UnblockedBelow, UnblockedBefore}
+use Rattle.ranking.proofs.finder.first_blocking.Given as given
+
+-- no lane so far blocks with the stream
+abbrev pub Inv-loop-lane : given.InvT-loop-lane
+Inv-loop-lane g l =
+    let s = g .R·Ranking .streamsOf (l .ranking) in
+    let n = g .R·Ranking .lanesOf (l .ranking) in
+    (l .found ≡ None)
+    × UnblockedBefore (marketOf s n (g .R·Ranking .byStream (l .ranking)) (g .R·Ranking .byLane (l .ranking))) (holdingOf s n (l .pairing)) (l .stream) (l .lane)
+
+-- no stream so far blocks with any lane
+abbrev pub Inv-search : given.InvT-search
+Inv-search g l =
+    let s = g .R·Ranking .streamsOf (l .ranking) in
+    let n = g .R·Ranking .lanesOf (l .ranking) in
+    (l .found ≡ None)
+    × UnblockedBelow (marketOf s n (g .R·Ranking .byStream (l .ranking)) (g .R·Ranking .byLane (l .ranking))) (holdingOf s n (l .pairing)) (l .stream)

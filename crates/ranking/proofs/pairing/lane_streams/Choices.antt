@@ -1,0 +1,6 @@
+use Rattle.ranking.proofs.Pairings.{ReadTo}
+use Rattle.ranking.proofs.pairing.lane_streams.Given as given
+
+-- no stream so far is refused, and the table is right for those so far
+abbrev pub Inv-loop-stream : given.InvT-loop-stream
+Inv-loop-stream g l = ReadTo (g .R·Ranking .lanesOf (l .ranking)) (l .pairing) (l .stream) (l .table)

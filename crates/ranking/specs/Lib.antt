@@ -1,0 +1,3 @@
+pub mod Market
+pub mod Pairings
+pub mod Stability

@@ -1,0 +1,57 @@
+-- A market: s streams and g lanes, and the rank that each party gives the parties of the other side.
+-- Stream i is party i, and lane j is party s + j. A lower rank is better.
+use mathlib.Core.Path.{_≡_}
+use mathlib.Core.Bool.{Bool, true, false, cond}
+use mathlib.Core.Logic.{_⊎_}
+use Prim.Native.Nat.{ℕ, _+_, _-_, _<_, _≤_}
+use lib.Dec.{ltb}
+use Rattle.std.specs.declared.option.Option.{Option}
+use Rattle.std.specs.declared.option.Option.the-variants.{None, Some}
+
+-- whether the first rank is better than the second: none is never preferred, any rank is preferred
+-- to none, and of two ranks the lower number
+abbrev pub prefers : Option ℕ → Option ℕ → Bool
+prefers None second = false
+prefers (Some k) None = true
+prefers (Some k) (Some l) = ltb k l
+
+-- how many streams and lanes there are, and the rank that one party gives another, by party numbers
+pub record Market : Type 0 where
+  pub streams : ℕ
+  pub lanes : ℕ
+  pub rank : ℕ → ℕ → Option ℕ
+
+-- the two tables as one, by party numbers: a stream ranks lanes, a lane ranks streams, and nobody
+-- ranks a party of its own side
+abbrev pub rankAcross : ℕ → (ℕ → ℕ → Option ℕ) → (ℕ → ℕ → Option ℕ) → ℕ → ℕ → Option ℕ
+rankAcross s byStream byLane p q =
+    cond (ltb p s) (cond (ltb q s) None (byStream p (q - s))) (cond (ltb q s) (byLane (p - s) q) None)
+
+-- the market of s streams and g lanes where stream i gives lane j the rank byStream i j, and lane j
+-- gives stream i the rank byLane j i
+abbrev pub marketOf : (s g : ℕ) (byStream byLane : ℕ → ℕ → Option ℕ) → Market
+marketOf s g byStream byLane = record { streams = s; lanes = g; rank = rankAcross s byStream byLane }
+
+-- one party never gives two different parties the same rank
+abbrev pub Strict : (ℕ → ℕ → Option ℕ) → Type 0
+Strict rank = (p q r k : ℕ) → rank p q ≡ Some k → rank p r ≡ Some k → q ≡ r
+
+-- there are 1 to 16 streams and 1 to 16 lanes
+abbrev pub Sized : ℕ → ℕ → Type 0
+Sized s g = (1 ≤ s) × (s ≤ 16) × (1 ≤ g) × (g ≤ 16)
+
+-- a table gives a rank only within its sizes, and a rank is at most 65,535
+abbrev pub Bounded : ℕ → ℕ → (ℕ → ℕ → Option ℕ) → Type 0
+Bounded rows columns table = (i j k : ℕ) → table i j ≡ Some k → (i < rows) × (j < columns) × (k ≤ 65535)
+
+-- p and q are a stream and a lane, in this order
+abbrev pub StreamAndLane : Market → ℕ → ℕ → Type 0
+StreamAndLane m p q = (p < m .streams) × (m .streams ≤ q) × (q < m .streams + m .lanes)
+
+-- what every market keeps: its sizes, ranks only between a stream and a lane and at most 65,535, and
+-- no rank given twice by one party
+pub record LawfulMarket (m : Market) : Type 0 where
+  pub sized : Sized (m .streams) (m .lanes)
+  pub across : (p q k : ℕ) → m .rank p q ≡ Some k → StreamAndLane m p q ⊎ StreamAndLane m q p
+  pub bounded : (p q k : ℕ) → m .rank p q ≡ Some k → k ≤ 65535
+  pub strict : Strict (m .rank)
