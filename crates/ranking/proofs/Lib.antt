@@ -4,3 +4,4 @@ pub mod Holdings
 pub mod Markets
 pub mod Blocking
 pub mod Findings
+pub mod Tables

@@ -15,6 +15,14 @@ prefers None second = false
 prefers (Some k) None = true
 prefers (Some k) (Some l) = ltb k l
 
+-- what a ranking means: its sizes and two tables, the rank that stream i gives lane j at byStream i j,
+-- and the rank that lane j gives stream i at byLane j i
+pub record Meaning : Type 0 where
+  pub streams : ℕ
+  pub lanes : ℕ
+  pub byStream : ℕ → ℕ → Option ℕ
+  pub byLane : ℕ → ℕ → Option ℕ
+
 -- how many streams and lanes there are, and the rank that one party gives another, by party numbers
 pub record Market : Type 0 where
   pub streams : ℕ

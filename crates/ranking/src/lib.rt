@@ -2,4 +2,6 @@
 
 pub mod finder;
 pub mod interface;
+pub mod listing;
 pub mod pairing;
+pub mod table;

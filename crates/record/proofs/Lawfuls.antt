@@ -9,20 +9,21 @@ use lib.ListN.{length, getD, take, drop}
 use lib.Dec.{eqb, leb, ltb}
 use Rattle.std.specs.declared.option.Option.the-variants.{None}
 use Rattle.std.specs.shelf.Lists.{kept-by, All}
-use Rattle.std.proofs.shelf.Lists.{append-nil, length-append, length-push, map-append, take-at, take-append-le, getD-append-left, getD-at, length-map}
-use Rattle.std.proofs.shelf.Tests.{and-parts, and-from, or-parts, lt-ltb, ltb-true, le-leb, leb-true, ne-eqb, eq-eqb, eqb-true, eqb-false, cases-lt}
+use Rattle.std.proofs.shelf.Lists.{append-nil, length-append, length-push, map-append, take-at, take-more, take-append-le, take-append-drop, getD-append-left, getD-at}
+use Rattle.std.proofs.shelf.Elements.{all-getD, kept-by-append}
+use Rattle.std.proofs.shelf.Tests.{and-parts, and-from, or-parts, lt-ltb, ltb-true, le-leb, leb-true, ne-eqb, eq-eqb, eqb-true, eqb-false, not-true, cases-lt}
 use Rattle.record.specs.Refusals.{refuseIf, orElse}
 use Rattle.record.specs.Lists.{every, among, Distinct, earliest}
 use Rattle.record.specs.Bytes.{lawfulLength}
 use Rattle.record.specs.Format.{Content, Lawful, Records, Rising, parties, facing, headWord, choiceWord, turnWord, pairWord, endWord, ownerWords, choiceWords, bodyWords, recordWords}
 use Rattle.record.specs.Faults.{kind, high, middle, low, number, ofKind, rankedBy, turnsIn, pairsIn, pairOf, byKind, headWithin, choiceWithin, turnWithin, pairWithin, within, choiceInOrder, turnInOrder, pairInOrder, endInOrder, inOrder, allowed, faultAt, recordFault}
-use Rattle.record.proofs.Lists.{every-push, every-append, every-weaker, kept-none, none-earliest}
+use Rattle.record.proofs.Lists.{every-push, every-append, every-weaker, every-all, kept-none, none-earliest}
 use Rattle.record.proofs.Scanning.{ofKind-push, ofKind-none, rankedBy-push, turnsIn-push, pairsIn-push, facing-few}
 use Rattle.record.proofs.Passing.{allowed-middle}
 use Rattle.record.proofs.Bounds.{allowed-last}
 use Rattle.record.proofs.Wording.{kind-head, middle-head, low-head, bits-head, kind-choice, high-choice, middle-choice, low-choice, bits-choice, kind-turn, low-turn, bits-turn, kind-pair, middle-pair, low-pair, bits-pair, kind-end, number-end}
 use Rattle.record.proofs.Extracts.{choice-kinds, choice-owners, turn-kinds, pair-kinds, turn-lows}
-use Rattle.record.proofs.Contents.{few-ranked, ranked-bytes, few-parties, turn-bytes, pair-bytes, few-words, only-same, only-other}
+use Rattle.record.proofs.Contents.{few-ranked, ranked-bytes, few-parties, turn-bytes, pair-bytes, few-words, only-same, kinds-choices, content-choices, content-ranked}
 
 -- A word keeps every rule after those before it.
 abbrev Fine : (s g : ℕ) → List ℕ → ℕ → Type 0
@@ -335,3 +336,70 @@ record-faultless ws c r =
     ap recordFault (r .words)
     ∙ ap (λ b. orElse (refuseIf (not b) (1, 0)) (earliest (faultAt (recordWords c)) (length (recordWords c)))) (content-length c (r .lawful))
     ∙ none-earliest (faultAt (recordWords c)) (length (recordWords c)) (content-clear c (r .lawful))
+
+-- What stands in the choices of a lawful content.
+module _ (c : Content) (law : Lawful c) where
+  abbrev cw : List ℕ
+  cw = choiceWords (c .ranked) (parties c)
+
+  -- whom a party ranks by them
+  pub choices-ranked : (p : ℕ) → rankedBy (choiceWords (c .ranked) (parties c)) p ≡ c .ranked p
+  choices-ranked p =
+      ap (λ l. map low (kept-by (λ w. eqb (high w) p) l)) (only-same 2 cw (kinds-choices c law) ∙ sym (content-choices c law))
+      ∙ content-ranked c law p
+
+  after-head : (k p : ℕ) → rankedBy (headWord (c .streams) (c .lanes) ∷ take k cw) p ≡ rankedBy (take k cw) p
+  after-head k p =
+      ap (λ b. map low (kept-by (λ w. eqb (high w) p) (cond b (headWord (c .streams) (c .lanes) ∷ ofKind 2 (take k cw)) (ofKind 2 (take k cw)))))
+      (ne-eqb (kind (headWord (c .streams) (c .lanes))) 2 (λ e. absurd (omega (arith, head-kind c law))))
+
+  module _ (k : ℕ) (h : k < length (choiceWords (c .ranked) (parties c))) where
+    abbrev w : ℕ
+    w = getD (choiceWords (c .ranked) (parties c)) k 0
+
+    pub choice-kind : kind (getD (choiceWords (c .ranked) (parties c)) k 0) ≡ 2
+    choice-kind = eqb-true (kind w) 2 (all-getD (λ v. eqb (kind v) 2 ≡ true) cw k 0 h (every-all (λ v. eqb (kind v) 2) cw (kinds-choices c law)))
+
+    fine : Fine (c .streams) (c .lanes) (headWord (c .streams) (c .lanes) ∷ take k cw) w
+    fine = clean-at (c .streams) (c .lanes) (headWord (c .streams) (c .lanes) ∷ []) cw (choices-clean c law (parties c) (omega arith)) k h
+
+    inside : (ltb (high w) (c .streams + c .lanes) ≡ true) × (ltb (low w) (facing (c .streams) (c .lanes) (high w)) ≡ true)
+    inside =
+        let t : choiceWithin (c .streams) (c .lanes) w ≡ true = ap (λ j. byKind j (headWithin w) (choiceWithin (c .streams) (c .lanes) w) (turnWithin (c .streams) (c .lanes) w) (pairWithin (c .streams) (c .lanes) w) true) (sym choice-kind) ∙ fine .1 in
+        and-parts (ltb (high w) (c .streams + c .lanes)) (ltb (low w) (facing (c .streams) (c .lanes) (high w))) (and-parts (eqb (w / 0x1000000 % 16) 0) (ltb (high w) (c .streams + c .lanes) && ltb (low w) (facing (c .streams) (c .lanes) (high w))) t .1)
+
+    pub choice-owner : high (getD (choiceWords (c .ranked) (parties c)) k 0) < 32
+    choice-owner = omega (arith, ltb-true (high w) (c .streams + c .lanes) (inside .0), few-parties c law)
+
+    pub choice-member : low (getD (choiceWords (c .ranked) (parties c)) k 0) < 16
+    choice-member = omega (arith, ltb-true (low w) (facing (c .streams) (c .lanes) (high w)) (inside .1), facing-few (c .streams) (c .lanes) (high w) (law .few-streams) (law .few-lanes))
+
+    ordered : (eqb (middle w) (length (rankedBy (take k cw) (high w))) ≡ true) × (not (among (low w) (rankedBy (take k cw) (high w))) ≡ true)
+    ordered =
+        let before = headWord (c .streams) (c .lanes) ∷ take k cw in
+        let t : choiceInOrder before w ≡ true = ap (λ j. byKind j true (choiceInOrder before w) (turnInOrder before) (pairInOrder before w) (endInOrder before w)) (sym choice-kind) ∙ fine .2 in
+        let p = and-parts (every (λ v. leb (high v) (high w)) (ofKind 2 before)) (eqb (middle w) (length (rankedBy before (high w))) && not (among (low w) (rankedBy before (high w)))) t in
+        and-parts (eqb (middle w) (length (rankedBy (take k cw) (high w)))) (not (among (low w) (rankedBy (take k cw) (high w))))
+        (ap (λ l. eqb (middle w) (length l) && not (among (low w) l)) (sym (after-head k (high w))) ∙ p .1)
+
+    pub choice-place : middle (getD (choiceWords (c .ranked) (parties c)) k 0) ≡ length (rankedBy (take k (choiceWords (c .ranked) (parties c))) (high (getD (choiceWords (c .ranked) (parties c)) k 0)))
+    choice-place = eqb-true (middle w) (length (rankedBy (take k cw) (high w))) (ordered .0)
+
+    pub choice-new : among (low (getD (choiceWords (c .ranked) (parties c)) k 0)) (rankedBy (take k (choiceWords (c .ranked) (parties c))) (high (getD (choiceWords (c .ranked) (parties c)) k 0))) ≡ false
+    choice-new = not-true (among (low w) (rankedBy (take k cw) (high w))) (ordered .1)
+
+    -- an owner has at most 16 choices, so the place of each is below 16
+    pub choice-few : middle (getD (choiceWords (c .ranked) (parties c)) k 0) < 16
+    choice-few =
+        let o = high w in
+        let front = ap length (rankedBy-push (take k cw) w o choice-kind refl) in
+        let whole : rankedBy cw o ≡ rankedBy (take (k + 1) cw) o ++ rankedBy (drop (k + 1) cw) o =
+              ap (λ l. rankedBy l o) (sym (take-append-drop (k + 1) cw)) ∙ ranked-append (take (k + 1) cw) (drop (k + 1) cw) o in
+        omega (arith, choice-place, few-ranked c law o, ap length (choices-ranked o), ap length whole, length-append (rankedBy (take (k + 1) cw) o) (rankedBy (drop (k + 1) cw) o),
+          ap (λ l. length (rankedBy l o)) (take-more cw k 0 h), front, length-push (rankedBy (take k cw) o) (low w))
+      where
+        ranked-append : (xs ys : List ℕ) (p : ℕ) → rankedBy (xs ++ ys) p ≡ rankedBy xs p ++ rankedBy ys p
+        ranked-append xs ys p =
+            ap (λ l. map low (kept-by (λ v. eqb (high v) p) l)) (kept-by-append (λ v. eqb (kind v) 2) xs ys)
+            ∙ ap (map low) (kept-by-append (λ v. eqb (high v) p) (ofKind 2 xs) (ofKind 2 ys))
+            ∙ map-append low (kept-by (λ v. eqb (high v) p) (ofKind 2 xs)) (kept-by (λ v. eqb (high v) p) (ofKind 2 ys))

@@ -1,0 +1,95 @@
+-- Tables of places.
+use mathlib.Core.Path.{_≡_, sym, _∙_, ap, refl, subst}
+use mathlib.Core.List.{List, [], _∷_, _++_}
+use mathlib.Core.Bool.{Bool, true, false, cond}
+use mathlib.Core.Logic.{_⊎_, inl, inr, ⊎-elim, _≢_}
+use Prim.Native.Nat.{ℕ, _+_, _*_, _-_, _<_, _≤_}
+use native.Mathlib.Omega.{arith}
+use lib.Dec.{ltb, eqb}
+use lib.ListN.{length, getD, set, replicate}
+use Rattle.std.specs.declared.option.Option.{Option}
+use Rattle.std.specs.declared.option.Option.the-variants.{None, Some}
+use Rattle.std.proofs.shelf.Lists.{getD-replicate, getD-past, length-replicate, getD-set-same, getD-set-other}
+use Rattle.std.proofs.shelf.Tests.{cases-lt, cases-eq, le-ltb, lt-ltb, eq-eqb, ne-eqb, cond-true, cond-false}
+use Rattle.std.specs.Options.{isSome}
+use Rattle.record.specs.Lists.{among, placeIn}
+use Rattle.record.specs.Faults.{kind, high, middle, low, rankedBy}
+use Rattle.record.proofs.Scanning.{rankedBy-push, rankedBy-other}
+use Rattle.ranking.specs.Places.{entry, placeAt, DistinctPlaces, Enterable, Entered}
+use Rattle.ranking.proofs.Places.{among-place, place-at, place-push-other, place-push-new}
+
+-- the empty table
+pub no-entry : (n k : ℕ) → _≡_ {A = ℕ} (getD (replicate n 255) k 255) 255
+no-entry n k = ⊎-elim (λ h. getD-replicate n k 255 255 h) (λ h. getD-past (replicate n 255) k 255 (rw (length-replicate {A = ℕ} n 255) h)) (cases-lt k n)
+
+pub no-place : (n p q : ℕ) → placeAt (replicate n 255) p q ≡ None
+no-place n p q = ap (λ w. cond (ltb w 255) (Some w) None) (no-entry n (16 * p + q))
+
+pub none-distinct : (n : ℕ) → DistinctPlaces (replicate n 255)
+none-distinct n t h = absurd (let e = no-entry n (16 * t .0 + t .1) in let l = h .2 in omega arith)
+
+-- an empty table is right for no choices
+pub none-entered : (n : ℕ) → Entered (replicate n 255) []
+none-entered n p q a b = no-place n p q
+
+not-among : (x : ℕ) (xs : List ℕ) → among x xs ≡ false → placeIn x xs ≡ None
+not-among x xs e = none (placeIn x xs) (sym (among-place x xs) ∙ e)
+  where
+    none : (o : Option ℕ) → isSome o ≡ false → o ≡ None
+    none None h = refl
+    none (Some k) h = grind arith
+
+-- one more choice entered
+pub one-entered : (places ws : List ℕ) (w : ℕ) → length places ≡ 512 → Enterable ws w → Entered places ws → Entered (set places (16 * high w + low w) (middle w)) (ws ++ w ∷ [])
+one-entered places ws w size fit known p q hp hq = ⊎-elim (λ e. ⊎-elim (λ f. same e f) (λ n. another-column e n) (cases-eq q (low w))) (λ n. another-row n) (cases-eq p (high w))
+  where
+    o : ℕ
+    o = high w
+    y : ℕ
+    y = low w
+    after : List ℕ
+    after = set places (16 * high w + low w) (middle w)
+    xs : List ℕ
+    xs = rankedBy ws (high w)
+    absent : placeIn (low w) (rankedBy ws (high w)) ≡ None
+    absent = not-among (low w) (rankedBy ws (high w)) (fit .new)
+    kept : 16 * p + q ≢ 16 * high w + low w → placeAt (set places (16 * high w + low w) (middle w)) p q ≡ placeAt places p q
+    kept n = ap (λ v. cond (ltb v 255) (Some v) None) (getD-set-other places (16 * high w + low w) (16 * p + q) (middle w) 255 n)
+    same : p ≡ high w → q ≡ low w → placeAt (set places (16 * high w + low w) (middle w)) p q ≡ placeIn q (rankedBy (ws ++ w ∷ []) p)
+    same e f =
+        let at : 16 * p + q ≡ 16 * high w + low w = omega arith in
+        let inside : 16 * high w + low w < length places = omega (arith, fit .row, fit .column) in
+        let written : entry (set places (16 * high w + low w) (middle w)) p q ≡ middle w = ap (λ k. getD (set places (16 * high w + low w) (middle w)) k 255) at ∙ getD-set-same places (16 * high w + low w) (middle w) 255 inside in
+        ap (λ v. cond (ltb v 255) (Some v) None) written
+        ∙ cond-true (ltb (middle w) 255) (Some (middle w)) None (lt-ltb (middle w) 255 (omega (arith, fit .few)))
+        ∙ ap Some (fit .place)
+        ∙ sym (place-push-new (low w) (rankedBy ws (high w)) absent)
+        ∙ ap (placeIn (low w)) (sym (rankedBy-push ws w (high w) (fit .of-kind) refl))
+        ∙ ap (λ x. placeIn x (rankedBy (ws ++ w ∷ []) (high w))) (sym f)
+        ∙ ap (λ x. placeIn q (rankedBy (ws ++ w ∷ []) x)) (sym e)
+    another-column : p ≡ high w → (q ≡ low w → ⊥) → placeAt (set places (16 * high w + low w) (middle w)) p q ≡ placeIn q (rankedBy (ws ++ w ∷ []) p)
+    another-column e n =
+        let apart : 16 * p + q ≢ 16 * high w + low w = λ s. n (omega arith) in
+        kept apart
+        ∙ known p q hp hq
+        ∙ sym (ap (placeIn q) (rankedBy-push ws w p (fit .of-kind) (sym e)) ∙ place-push-other q (low w) (rankedBy ws p) (ne-eqb q (low w) n))
+    another-row : (p ≡ high w → ⊥) → placeAt (set places (16 * high w + low w) (middle w)) p q ≡ placeIn q (rankedBy (ws ++ w ∷ []) p)
+    another-row n =
+        let c = fit .column in
+        let apart : 16 * p + q ≢ 16 * high w + low w = λ s. n (omega arith) in
+        kept apart ∙ known p q hp hq ∙ ap (placeIn q) (sym (rankedBy-other ws w p (fit .of-kind) (λ s. n (sym s))))
+
+-- a table that is right for some choices gives no place twice
+pub entered-distinct : (places ws : List ℕ) → length places ≡ 512 → Entered places ws → DistinctPlaces places
+entered-distinct places ws size known t h = ⊎-elim inside outside (cases-lt (t .0) 32)
+  where
+    given : (q : ℕ) → q < 16 → t .0 < 32 → entry places (t .0) q < 255 → placeIn q (rankedBy ws (t .0)) ≡ Some (entry places (t .0) q)
+    given q hq hp l = sym (known (t .0) q hp hq) ∙ cond-true (ltb (entry places (t .0) q) 255) (Some (entry places (t .0) q)) None (lt-ltb (entry places (t .0) q) 255 l)
+    inside : t .0 < 32 → t .1 ≡ t .2
+    inside hp =
+        let l : entry places (t .0) (t .2) < 255 = subst (λ v. v < 255) (h .3) (h .2) in
+        let a = place-at (t .1) (rankedBy ws (t .0)) (entry places (t .0) (t .1)) (given (t .1) (h .0) hp (h .2)) in
+        let b = place-at (t .2) (rankedBy ws (t .0)) (entry places (t .0) (t .2)) (given (t .2) (h .1) hp l) in
+        sym (a .1) ∙ ap (λ k. getD (rankedBy ws (t .0)) k 0) (h .3) ∙ b .1
+    outside : 32 ≤ t .0 → t .1 ≡ t .2
+    outside hp = absurd (let e : _≡_ {A = ℕ} (entry places (t .0) (t .1)) 255 = getD-past places (16 * t .0 + t .1) 255 (omega arith) in let l = h .2 in omega arith)
