@@ -6,16 +6,21 @@ use mathlib.Core.Logic.{_⊎_, inl, inr, ⊎-elim, _≢_}
 use Prim.Native.Nat.{ℕ, _+_, _*_, _-_, _<_, _≤_}
 use native.Mathlib.Omega.{arith}
 use lib.Dec.{ltb, eqb}
-use lib.ListN.{length, getD, set, replicate}
+use lib.ListN.{length, getD, set, take, replicate}
 use Rattle.std.specs.declared.option.Option.{Option}
 use Rattle.std.specs.declared.option.Option.the-variants.{None, Some}
 use Rattle.std.proofs.shelf.Lists.{getD-replicate, getD-past, length-replicate, getD-set-same, getD-set-other}
 use Rattle.std.proofs.shelf.Tests.{cases-lt, cases-eq, le-ltb, lt-ltb, eq-eqb, ne-eqb, cond-true, cond-false}
 use Rattle.std.specs.Options.{isSome}
-use Rattle.record.specs.Lists.{among, placeIn}
+use Rattle.std.specs.shelf.Lists.{All}
+use Rattle.record.specs.Lists.{among, placeIn, next}
 use Rattle.record.specs.Faults.{kind, high, middle, low, rankedBy}
+use Rattle.record.specs.Format.{Content, Lawful, parties, facing, choiceWords}
+use Rattle.record.proofs.Contents.{few-parties}
+use Rattle.record.proofs.Lawfuls.{choices-ranked, choice-kind, choice-owner, choice-member, choice-place, choice-new, choice-few}
 use Rattle.record.proofs.Scanning.{rankedBy-push, rankedBy-other}
 use Rattle.ranking.specs.Places.{entry, placeAt, DistinctPlaces, Enterable, Entered}
+use Rattle.ranking.specs.Listings.{tableMeaning, contentMeaning}
 use Rattle.ranking.proofs.Places.{among-place, place-at, place-push-other, place-push-new}
 
 -- the empty table
@@ -93,3 +98,71 @@ entered-distinct places ws size known t h = ⊎-elim inside outside (cases-lt (t
         sym (a .1) ∙ ap (λ k. getD (rankedBy ws (t .0)) k 0) (h .3) ∙ b .1
     outside : 32 ≤ t .0 → t .1 ≡ t .2
     outside hp = absurd (let e : _≡_ {A = ℕ} (entry places (t .0) (t .1)) 255 = getD-past places (16 * t .0 + t .1) 255 (omega arith) in let l = h .2 in omega arith)
+
+-- Lists of places and contents.
+absent : (xs : List ℕ) (n q : ℕ) → n ≤ q → All (λ x. x < n) xs → placeIn q xs ≡ None
+absent [] n q h a = refl
+absent (x ∷ xs) n q h a =
+    let l = a .0 in
+    ap (λ b. cond b (Some 0) (next (placeIn q xs))) (ne-eqb q x (λ e. absurd (omega arith))) ∙ ap next (absent xs n q h (a .1))
+
+module _ (c : Content) (law : Lawful c) (ws places : List ℕ) (words : ws ≡ choiceWords (c .ranked) (parties c)) (known : Entered places ws) where
+  outside : (p q : ℕ) → facing (c .streams) (c .lanes) p ≤ q → placeIn q (c .ranked p) ≡ None
+  outside p q h = absent (c .ranked p) (facing (c .streams) (c .lanes) p) q h (law .ranks-the-other-side p)
+
+  place : (p q : ℕ) → p < parties c → q < 16 → placeAt places p q ≡ placeIn q (c .ranked p)
+  place p q hp hq = known p q (omega (arith, few-parties c law)) hq ∙ ap (placeIn q) (ap (λ l. rankedBy l p) words ∙ choices-ranked c law p)
+
+  by-stream : (i j : ℕ) → cond (ltb i (c .streams)) (cond (ltb j (c .lanes)) (placeAt places i j) None) None ≡ cond (ltb i (c .streams)) (placeIn j (c .ranked i)) None
+  by-stream i j = ⊎-elim inside (λ h. ap (λ b. cond b (cond (ltb j (c .lanes)) (placeAt places i j) None) None) (le-ltb i (c .streams) h) ∙ sym (ap (λ b. cond b (placeIn j (c .ranked i)) None) (le-ltb i (c .streams) h))) (cases-lt i (c .streams))
+    where
+      side : i < c .streams → facing (c .streams) (c .lanes) i ≡ c .lanes
+      side h = cond-true (ltb i (c .streams)) (c .lanes) (cond (ltb i (c .streams + c .lanes)) (c .streams) 0) (lt-ltb i (c .streams) h)
+      inside : i < c .streams → cond (ltb i (c .streams)) (cond (ltb j (c .lanes)) (placeAt places i j) None) None ≡ cond (ltb i (c .streams)) (placeIn j (c .ranked i)) None
+      inside h = ap (cond-of (ltb i (c .streams))) (⊎-elim
+          (λ k. cond-true (ltb j (c .lanes)) (placeAt places i j) None (lt-ltb j (c .lanes) k) ∙ place i j (omega (arith, law .few-lanes)) (omega (arith, law .few-lanes)))
+          (λ k. cond-false (ltb j (c .lanes)) (placeAt places i j) None (le-ltb j (c .lanes) k) ∙ sym (outside i j (rw (side h) k)))
+          (cases-lt j (c .lanes)))
+        where
+          cond-of : Bool → Option ℕ → Option ℕ
+          cond-of b o = cond b o None
+
+  by-lane : (j i : ℕ) → cond (ltb j (c .lanes)) (cond (ltb i (c .streams)) (placeAt places (c .streams + j) i) None) None ≡ placeIn i (c .ranked (c .streams + j))
+  by-lane j i = ⊎-elim inside (λ h. cond-false (ltb j (c .lanes)) (cond (ltb i (c .streams)) (placeAt places (c .streams + j) i) None) None (le-ltb j (c .lanes) h) ∙ sym (outside (c .streams + j) i (rw (nobody h) (omega arith)))) (cases-lt j (c .lanes))
+    where
+      nobody : c .lanes ≤ j → facing (c .streams) (c .lanes) (c .streams + j) ≡ 0
+      nobody h = cond-false (ltb (c .streams + j) (c .streams)) (c .lanes) (cond (ltb (c .streams + j) (c .streams + c .lanes)) (c .streams) 0) (le-ltb (c .streams + j) (c .streams) (omega arith))
+                 ∙ cond-false (ltb (c .streams + j) (c .streams + c .lanes)) (c .streams) 0 (le-ltb (c .streams + j) (c .streams + c .lanes) (omega arith))
+      side : j < c .lanes → facing (c .streams) (c .lanes) (c .streams + j) ≡ c .streams
+      side h = cond-false (ltb (c .streams + j) (c .streams)) (c .lanes) (cond (ltb (c .streams + j) (c .streams + c .lanes)) (c .streams) 0) (le-ltb (c .streams + j) (c .streams) (omega arith))
+               ∙ cond-true (ltb (c .streams + j) (c .streams + c .lanes)) (c .streams) 0 (lt-ltb (c .streams + j) (c .streams + c .lanes) (omega arith))
+      inside : j < c .lanes → cond (ltb j (c .lanes)) (cond (ltb i (c .streams)) (placeAt places (c .streams + j) i) None) None ≡ placeIn i (c .ranked (c .streams + j))
+      inside h = cond-true (ltb j (c .lanes)) (cond (ltb i (c .streams)) (placeAt places (c .streams + j) i) None) None (lt-ltb j (c .lanes) h) ∙ ⊎-elim
+          (λ k. cond-true (ltb i (c .streams)) (placeAt places (c .streams + j) i) None (lt-ltb i (c .streams) k) ∙ place (c .streams + j) i (omega arith) (omega (arith, law .few-streams)))
+          (λ k. cond-false (ltb i (c .streams)) (placeAt places (c .streams + j) i) None (le-ltb i (c .streams) k) ∙ sym (outside (c .streams + j) i (rw (side h) k)))
+          (cases-lt i (c .streams))
+
+-- the choices of a record may be entered one after the other
+pub enterable : (c : Content) → Lawful c → (ws : List ℕ) → ws ≡ choiceWords (c .ranked) (parties c) → (k : ℕ) → k < length ws → Enterable (take k ws) (getD ws k 0)
+enterable c law ws words k h =
+    subst (λ l. Enterable (take k l) (getD l k 0)) (sym words) (record {
+      of-kind = choice-kind c law k inside;
+      row = choice-owner c law k inside;
+      column = choice-member c law k inside;
+      few = choice-few c law k inside;
+      place = choice-place c law k inside;
+      new = choice-new c law k inside })
+  where
+    inside : k < length (choiceWords (c .ranked) (parties c))
+    inside = subst (λ l. k < length l) words h
+
+-- what such a table means is what the content means
+pub table-content : (c : Content) → Lawful c → (ws places : List ℕ) (s g : ℕ) → ws ≡ choiceWords (c .ranked) (parties c) → Entered places ws → s ≡ c .streams → g ≡ c .lanes → tableMeaning s g places ≡ contentMeaning c
+table-content c law ws places s g words known es eg =
+    ap (λ x. tableMeaning x g places) es
+    ∙ ap (λ x. tableMeaning (c .streams) x places) eg
+    ∙ (λ k. record {
+        streams = c .streams;
+        lanes = c .lanes;
+        byStream = λ i j. by-stream c law ws places words known i j k;
+        byLane = λ j i. by-lane c law ws places words known j i k })

@@ -14,13 +14,17 @@ use Rattle.ranking.specs.Market.{Meaning}
 use Rattle.ranking.specs.Places.{placeAt}
 use Rattle.ranking.specs.declared.table.Listing.{Listing}
 
--- what a listing means, by its table
+-- what a table of places means, given the sizes: streams have the first rows, and lane j has row s + j
+abbrev pub tableMeaning : (streams lanes : ℕ) → List ℕ → Meaning
+tableMeaning s g places = record {
+    streams = s;
+    lanes = g;
+    byStream = λ i j. cond (ltb i s) (cond (ltb j g) (placeAt places i j) None) None;
+    byLane = λ j i. cond (ltb j g) (cond (ltb i s) (placeAt places (s + j) i) None) None }
+
+-- what a listing means
 abbrev pub listed : Listing → Meaning
-listed x = record {
-    streams = x .streams;
-    lanes = x .lanes;
-    byStream = λ i j. cond (ltb i (x .streams)) (cond (ltb j (x .lanes)) (placeAt (x .places) i j) None) None;
-    byLane = λ j i. cond (ltb j (x .lanes)) (cond (ltb i (x .streams)) (placeAt (x .places) (x .streams + j) i) None) None }
+listed x = tableMeaning (x .streams) (x .lanes) (x .places)
 
 -- what a new listing means: one stream, one lane, and nobody ranks anybody
 abbrev pub unlisted : Meaning
