@@ -6,10 +6,12 @@ ghost use lib.ListN.{length, getD, take};
 ghost use Rattle.std.specs.Results.{Cases};
 ghost use Rattle.record.specs.Refusals.{refusedBy};
 ghost use Rattle.record.specs.Format.{Content, Records};
+ghost use Rattle.record.specs.Reading.{PartsOf};
 ghost use Rattle.ranking.specs.Places.{Enterable, Entered};
 ghost use Rattle.ranking.specs.Listings.{listed, unlisted, contentMeaning, fillFault};
 use crate::table::Listing;
 use crate::table::TABLE;
+use record::read::Parts;
 use record::read::read;
 use record::refusal::Refusal;
 use record::word::high_byte;
@@ -44,10 +46,11 @@ impl Listing {
         Listing { streams: 1, lanes: 1, places: [NO_PLACE; TABLE], filled: false }
     }
 
-    /// Fills a new listing from the words of a record. Refuses what reading refuses, then 11 where it was filled before.
-    pub fn fill(&mut self, words: &[u32]) -> Result<(), Refusal>
+    /// Fills a new listing from the words of a record, and answers the record's parts.
+    /// Refuses what reading refuses, then 11 where it was filled before.
+    pub fn fill<'a>(&mut self, words: &'a [u32]) -> Result<Parts<'a>, Refusal>
         ensures refused_as_told { λ r. ⌜ refusedBy r ≡ fillFault (now (words .entry)) (now (self .entry) .filled) ⌝ }
-        ensures ranks_by_the_content { λ r. ⌜ Cases r (λ _. ((c : Content) × (Records (now (words .entry)) c × (listed (now (self .exit)) ≡ contentMeaning c)))) (λ _. Unit {0}) ⌝ }
+        ensures ranks_by_the_content { λ r. ⌜ Cases r (λ p. ((c : Content) × (Records (now (words .entry)) c × PartsOf c (p .streams) (p .lanes) (p .choices .at, now (p .choices .words)) (p .turns .at, now (p .turns .words)) (p .pairs .at, now (p .pairs .words)) × (listed (now (self .exit)) ≡ contentMeaning c)))) (λ _. Unit {0}) ⌝ }
         ensures filled_once { λ r. ⌜ Cases r (λ _. now (self .exit) .filled ≡ true) (λ _. Unit {0}) ⌝ }
         ensures refused_changes_nothing { λ r. ⌜ Cases r (λ _. Unit {0}) (λ _. now (self .exit) ≡ now (self .entry)) ⌝ }
     {
@@ -57,6 +60,6 @@ impl Listing {
         }
         let places = places_of(parts.choices.words);
         *self = Listing { streams: parts.streams, lanes: parts.lanes, places, filled: true };
-        Ok(())
+        Ok(parts)
     }
 }

@@ -31,7 +31,7 @@ returns c =
     record {
       refused-as-told =
         sym (ap (λ o. orElse o (refuseIf (c .args .self .now .filled) (11, 0))) (sym (c .in-Continue-parts .ensures tt .refused-as-told)) ∙ ap (λ b. refuseIf b (11, 0)) (c .if-self .left));
-      ranks-by-the-content = (told .0, (told .1 .0,
+      ranks-by-the-content = (told .0, (told .1 .0, parts,
         table-content (told .0) (told .1 .0 .lawful) (c .in-Continue-parts .parts .choices .words .now) (c .places-of-places .result) (c .in-Continue-parts .parts .streams) (c .in-Continue-parts .parts .lanes) (parts .choice-words) (c .places-of-places .ensures .has-every-place) (parts .streams) (parts .lanes)));
       filled-once = refl;
       refused-changes-nothing = tt }
