@@ -46,7 +46,7 @@ fn rank_each_other<R: Ranking>(ranking: &R, stream: u8, lane: u8) -> bool
 // The lowest stream that holds a lane where one of the two does not rank the other.
 fn first_unranked<R: Ranking>(ranking: &R, pairing: &[u8]) -> Option<u8>
     requires not_refused { ⌜ pairingFault (marketOf (meaning (now ranking))) (now pairing) ≡ None ⌝ }
-    ensures is_the_first_unranked { λ r. ⌜ BySome r (RankedBelow (marketOf (meaning (now (ranking .entry)))) (holdingOf (marketOf (meaning (now (ranking .entry)))) (now (pairing .entry))) (meaning (now (ranking .entry)) .streams)) (λ i. FirstUnranked (marketOf (meaning (now (ranking .entry)))) (holdingOf (marketOf (meaning (now (ranking .entry)))) (now (pairing .entry))) i) ⌝ }
+    ensures is_the_first_unranked { λ r. let m = marketOf (meaning (now (ranking .entry))) in let h = holdingOf m (now (pairing .entry)) in ⌜ BySome r (RankedBelow m h (m .streams)) (FirstUnranked m h) ⌝ }
 {
     let streams = ranking.streams();
     let lanes = ranking.lanes();
@@ -86,7 +86,7 @@ fn first_blocking<R: Ranking>(
 ) -> Option<(u8, u8)>
     requires not_refused { ⌜ pairingFault (marketOf (meaning (now ranking))) (now pairing) ≡ None ⌝ }
     requires table_as_told { ⌜ TableOf (now pairing) (now table) ⌝ }
-    ensures is_the_first_blocking { λ r. ⌜ BySome r (UnblockedBelow (marketOf (meaning (now (ranking .entry)))) (holdingOf (marketOf (meaning (now (ranking .entry)))) (now (pairing .entry))) (meaning (now (ranking .entry)) .streams)) (λ p. FirstBlocking (marketOf (meaning (now (ranking .entry)))) (holdingOf (marketOf (meaning (now (ranking .entry)))) (now (pairing .entry))) (p .0) (p .1)) ⌝ }
+    ensures is_the_first_blocking { λ r. let m = marketOf (meaning (now (ranking .entry))) in let h = holdingOf m (now (pairing .entry)) in ⌜ BySome r (UnblockedBelow m h (m .streams)) (λ p. FirstBlocking m h (p .0) (p .1)) ⌝ }
 {
     let streams = ranking.streams();
     let lanes = ranking.lanes();
@@ -107,8 +107,8 @@ fn first_blocking<R: Ranking>(
 /// Refuses 8 where the list is no pairing of the ranking's streams and lanes.
 pub fn find<R: Ranking>(ranking: &R, pairing: &[u8]) -> Result<Finding, Refusal>
     ensures refused_as_told { λ r. ⌜ refusedBy r ≡ pairingFault (marketOf (meaning (now (ranking .entry)))) (now (pairing .entry)) ⌝ }
-    ensures found_as_told { λ r. ⌜ Cases r (λ f. Found (marketOf (meaning (now (ranking .entry)))) (holdingOf (marketOf (meaning (now (ranking .entry)))) (now (pairing .entry))) f) (λ _. Unit {0}) ⌝ }
-    ensures stable_exactly_when { λ r. ⌜ (r ≡ Ok Finding.Stable ↔ (pairingFault (marketOf (meaning (now (ranking .entry)))) (now (pairing .entry)) ≡ None) × Stable (marketOf (meaning (now (ranking .entry)))) (holdingOf (marketOf (meaning (now (ranking .entry)))) (now (pairing .entry)))) ⌝ }
+    ensures found_as_told { λ r. let m = marketOf (meaning (now (ranking .entry))) in ⌜ Cases r (Found m (holdingOf m (now (pairing .entry)))) (λ _. Unit {0}) ⌝ }
+    ensures stable_exactly_when { λ r. let m = marketOf (meaning (now (ranking .entry))) in ⌜ (r ≡ Ok Finding.Stable ↔ (pairingFault m (now (pairing .entry)) ≡ None) × Stable m (holdingOf m (now (pairing .entry)))) ⌝ }
 {
     let table = lane_streams(ranking, pairing)?;
     if let Some(stream) = first_unranked(ranking, pairing) {

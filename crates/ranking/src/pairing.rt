@@ -17,9 +17,12 @@ pub const MOST_LANES: usize = 16;
 
 /// The stream of each lane under a pairing, 255 for a lane that nobody has.
 /// Refuses 8 where the list is no pairing of the ranking's streams and lanes.
-pub(crate) fn lane_streams<R: Ranking>(ranking: &R, pairing: &[u8]) -> Result<[u8; MOST_LANES], Refusal>
+pub(crate) fn lane_streams<R: Ranking>(
+    ranking: &R,
+    pairing: &[u8],
+) -> Result<[u8; MOST_LANES], Refusal>
     ensures refused_as_told { λ r. ⌜ refusedBy r ≡ pairingFault (marketOf (meaning (now (ranking .entry)))) (now (pairing .entry)) ⌝ }
-    ensures table_as_told { λ r. ⌜ Cases r (λ table. TableOf (now (pairing .entry)) table) (λ _. Unit {0}) ⌝ }
+    ensures table_as_told { λ r. ⌜ Cases r (TableOf (now (pairing .entry))) (λ _. Unit {0}) ⌝ }
 {
     let streams = ranking.streams();
     let lanes = ranking.lanes();
