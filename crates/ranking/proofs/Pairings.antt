@@ -100,7 +100,7 @@ refuse-none : (b : Bool) (code : ℕ × ℕ) → refuseIf b code ≡ None → b 
 refuse-none true code e = cc
 refuse-none false code e = refl
 
--- where a test or another refusal would refuse and neither does
+-- where nothing is refused, the test does not hold, and what comes after it refuses nothing
 none-refused : (b : Bool) (code : ℕ × ℕ) (o : Option (ℕ × ℕ)) → orElse (refuseIf b code) o ≡ None → (b ≡ false) × (o ≡ None)
 none-refused true code o e = absurd (let z : _≡_ {A = ℕ} 0 1 = cc in omega arith)
 none-refused false code o e = (refl, e)
