@@ -11,10 +11,10 @@ use Rattle.std.specs.Options.{isSome}
 use Rattle.std.specs.declared.option.Option.{Option}
 use Rattle.std.specs.declared.option.Option.the-variants.{None, Some}
 use Rattle.std.proofs.shelf.Tests.{lt-ltb, le-ltb, eqb-true, cond-true, cond-false, cases-lt, cases-bool, both-ways, and-parts}
-use Rattle.ranking.specs.Market.{Market, marketOf, prefers, Sized, Bounded, StreamAndLane, LawfulMarket}
+use Rattle.record.proofs.Lists.{place-at}
+use Rattle.ranking.specs.Market.{Market, Meaning, marketOf, prefers, Sized, Bounded, BoundedRanks, StreamAndLane, LawfulMarket}
 use Rattle.ranking.specs.Pairings.{LawfulPairing, laneParty, holdingOf, streamNamed, TableOf}
 use Rattle.ranking.specs.Stability.{rankOf, heldRank, wants, isParty, holds, blocks, ranksBoth, heldRanked, Stable, RankedBelow, UnblockedBelow, UnblockedBefore}
-use Rattle.ranking.proofs.Places.{place-at}
 use Rattle.ranking.proofs.Holdings.{holding-stream, holding-lane, holding-tells, holding-mutual}
 use Rattle.ranking.proofs.Markets.{rank-stream, rank-lane}
 
@@ -95,68 +95,71 @@ no-rank rows columns table i j b h = go (table i j) refl
     go None e = refl
     go (Some k) e = absurd (omega (arith, b i j k e .1))
 
--- a pairing under the tables of a ranking
-module _ (s g : ℕ) (byStream byLane : ℕ → ℕ → Option ℕ) (bytes : List ℕ) where
+-- a pairing under what a ranking means
+module _ (x : Meaning) (bytes : List ℕ) where
   -- the rank that a stream gives the lane that its byte names
-  pub stream-held : (i : ℕ) → Bounded s g byStream → i < s → heldRank (marketOf s g byStream byLane) (holdingOf s g bytes) i ≡ byStream i (getD bytes i 0)
-  stream-held i b h = ap (rankOf (marketOf s g byStream byLane .rank i)) (holding-stream s g bytes i h) ∙ ⊎-elim named nobody (cases-lt (getD bytes i 0) g)
+  pub stream-held : (i : ℕ) → BoundedRanks x → i < x .streams → heldRank (marketOf x) (holdingOf (marketOf x) bytes) i ≡ x .byStream i (getD bytes i 0)
+  stream-held i b h = ap (rankOf (marketOf x .rank i)) (holding-stream (marketOf x) bytes i h) ∙ ⊎-elim named nobody (cases-lt (getD bytes i 0) (x .lanes))
     where
-      named : getD bytes i 0 < g → rankOf (marketOf s g byStream byLane .rank i) (laneParty s g (getD bytes i 0)) ≡ byStream i (getD bytes i 0)
-      named l = ap (rankOf (marketOf s g byStream byLane .rank i)) (cond-true (ltb (getD bytes i 0) g) _ _ (lt-ltb (getD bytes i 0) g l)) ∙ rank-stream s byStream byLane i (getD bytes i 0) h
+      named : getD bytes i 0 < x .lanes → rankOf (marketOf x .rank i) (laneParty (marketOf x) (getD bytes i 0)) ≡ x .byStream i (getD bytes i 0)
+      named l = ap (rankOf (marketOf x .rank i)) (cond-true (ltb (getD bytes i 0) (x .lanes)) _ _ (lt-ltb (getD bytes i 0) (x .lanes) l)) ∙ rank-stream x i (getD bytes i 0) h
 
-      nobody : g ≤ getD bytes i 0 → rankOf (marketOf s g byStream byLane .rank i) (laneParty s g (getD bytes i 0)) ≡ byStream i (getD bytes i 0)
-      nobody l = ap (rankOf (marketOf s g byStream byLane .rank i)) (cond-false (ltb (getD bytes i 0) g) _ _ (le-ltb (getD bytes i 0) g l)) ∙ sym (no-rank s g byStream i (getD bytes i 0) b l)
+      nobody : x .lanes ≤ getD bytes i 0 → rankOf (marketOf x .rank i) (laneParty (marketOf x) (getD bytes i 0)) ≡ x .byStream i (getD bytes i 0)
+      nobody l =
+          ap (rankOf (marketOf x .rank i)) (cond-false (ltb (getD bytes i 0) (x .lanes)) _ _ (le-ltb (getD bytes i 0) (x .lanes) l))
+          ∙ sym (no-rank (x .streams) (x .lanes) (x .byStream) i (getD bytes i 0) (b .0) l)
 
   -- the rank that a lane gives the stream that the table names for it
-  pub lane-held : (table : List ℕ) (j : ℕ) → s ≤ 16 → g ≤ 16 → Bounded g s byLane → LawfulPairing s g bytes → TableOf bytes table → j < g → heldRank (marketOf s g byStream byLane) (holdingOf s g bytes) (s + j) ≡ byLane j (getD table j 0)
-  lane-held table j a c b p t h = ap (rankOf (marketOf s g byStream byLane .rank (s + j))) (holding-lane s g bytes j h ∙ sym (t .each j (omega arith))) ∙ ⊎-elim nobody named (cases-bool (eqb (getD table j 0) 255))
+  pub lane-held : (table : List ℕ) (j : ℕ) → Sized x → BoundedRanks x → LawfulPairing (marketOf x) bytes → TableOf bytes table → j < x .lanes → heldRank (marketOf x) (holdingOf (marketOf x) bytes) (x .streams + j) ≡ x .byLane j (getD table j 0)
+  lane-held table j z b p t h = ap (rankOf (marketOf x .rank (x .streams + j))) (holding-lane (marketOf x) bytes j h ∙ sym (t .each j (omega arith))) ∙ ⊎-elim nobody named (cases-bool (eqb (getD table j 0) 255))
     where
-      nobody : eqb (getD table j 0) 255 ≡ true → rankOf (marketOf s g byStream byLane .rank (s + j)) (streamNamed (getD table j 0)) ≡ byLane j (getD table j 0)
+      nobody : eqb (getD table j 0) 255 ≡ true → rankOf (marketOf x .rank (x .streams + j)) (streamNamed (getD table j 0)) ≡ x .byLane j (getD table j 0)
       nobody e =
-          ap (rankOf (marketOf s g byStream byLane .rank (s + j))) (cond-true (eqb (getD table j 0) 255) _ _ e)
-          ∙ sym (no-rank g s byLane j (getD table j 0) b (omega (arith, eqb-true (getD table j 0) 255 e)))
+          ap (rankOf (marketOf x .rank (x .streams + j))) (cond-true (eqb (getD table j 0) 255) _ _ e)
+          ∙ sym (no-rank (x .lanes) (x .streams) (x .byLane) j (getD table j 0) (b .1) (omega (arith, eqb-true (getD table j 0) 255 e)))
 
-      named : eqb (getD table j 0) 255 ≡ false → rankOf (marketOf s g byStream byLane .rank (s + j)) (streamNamed (getD table j 0)) ≡ byLane j (getD table j 0)
+      named : eqb (getD table j 0) 255 ≡ false → rankOf (marketOf x .rank (x .streams + j)) (streamNamed (getD table j 0)) ≡ x .byLane j (getD table j 0)
       named e =
           let n : streamNamed (getD table j 0) ≡ Some (getD table j 0) = cond-false (eqb (getD table j 0) 255) _ _ e in
           let at = place-at j bytes (getD table j 0) (sym (t .each j (omega arith)) ∙ n) in
-          ap (rankOf (marketOf s g byStream byLane .rank (s + j))) n ∙ rank-lane s byStream byLane j (getD table j 0) (omega (arith, at .0, p .count))
+          ap (rankOf (marketOf x .rank (x .streams + j))) n ∙ rank-lane x j (getD table j 0) (omega (arith, at .0, p .count))
 
   -- when a stream and a lane block, by the tables
-  pub pair-blocks : (table : List ℕ) (i j : ℕ) → s ≤ 16 → g ≤ 16 → Bounded s g byStream → Bounded g s byLane → LawfulPairing s g bytes → TableOf bytes table → i < s → j < g → blocks (marketOf s g byStream byLane) (holdingOf s g bytes) i (s + j) ≡ (prefers (byStream i j) (byStream i (getD bytes i 0)) && prefers (byLane j i) (byLane j (getD table j 0)))
-  pair-blocks table i j a c bs bl p t h l =
-      let m = marketOf s g byStream byLane in
-      let held = holdingOf s g bytes in
-      blocks-wants m held i (s + j)
-      ∙ ap (λ o. prefers o (heldRank m held i) && wants m held (s + j) i) (rank-stream s byStream byLane i j h)
-      ∙ ap (λ o. prefers (byStream i j) o && wants m held (s + j) i) (stream-held i bs h)
-      ∙ ap (λ o. prefers (byStream i j) (byStream i (getD bytes i 0)) && prefers o (heldRank m held (s + j))) (rank-lane s byStream byLane j i h)
-      ∙ ap (λ o. prefers (byStream i j) (byStream i (getD bytes i 0)) && prefers (byLane j i) o) (lane-held table j a c bl p t l)
+  pub pair-blocks : (table : List ℕ) (i j : ℕ) → Sized x → BoundedRanks x → LawfulPairing (marketOf x) bytes → TableOf bytes table → i < x .streams → j < x .lanes → blocks (marketOf x) (holdingOf (marketOf x) bytes) i (x .streams + j) ≡ (prefers (x .byStream i j) (x .byStream i (getD bytes i 0)) && prefers (x .byLane j i) (x .byLane j (getD table j 0)))
+  pair-blocks table i j z b p t h l =
+      let m = marketOf x in
+      let held = holdingOf m bytes in
+      let q = x .streams + j in
+      blocks-wants m held i q
+      ∙ ap (λ o. prefers o (heldRank m held i) && wants m held q i) (rank-stream x i j h)
+      ∙ ap (λ o. prefers (x .byStream i j) o && wants m held q i) (stream-held i b h)
+      ∙ ap (λ o. prefers (x .byStream i j) (x .byStream i (getD bytes i 0)) && prefers o (heldRank m held q)) (rank-lane x j i h)
+      ∙ ap (λ o. prefers (x .byStream i j) (x .byStream i (getD bytes i 0)) && prefers (x .byLane j i) o) (lane-held table j z b p t l)
 
   -- the same of a test that compared these ranks, with the stream's own rank read before
-  pub pair-tested : (table : List ℕ) (i j : ℕ) (held : Option ℕ) (test : Bool) → Sized s g → Bounded s g byStream × Bounded g s byLane → LawfulPairing s g bytes → TableOf bytes table → i < s → j < g → held ≡ byStream i (getD bytes i 0) → test ≡ (prefers (byStream i j) held && prefers (byLane j i) (byLane j (getD table j 0))) → blocks (marketOf s g byStream byLane) (holdingOf s g bytes) i (s + j) ≡ test
+  pub pair-tested : (table : List ℕ) (i j : ℕ) (held : Option ℕ) (test : Bool) → Sized x → BoundedRanks x → LawfulPairing (marketOf x) bytes → TableOf bytes table → i < x .streams → j < x .lanes → held ≡ x .byStream i (getD bytes i 0) → test ≡ (prefers (x .byStream i j) held && prefers (x .byLane j i) (x .byLane j (getD table j 0))) → blocks (marketOf x) (holdingOf (marketOf x) bytes) i (x .streams + j) ≡ test
   pair-tested table i j held test z b p t h l read is =
-      pair-blocks table i j (z .1) (z .3) (b .0) (b .1) p t h l
-      ∙ ap (λ o. prefers (byStream i j) o && prefers (byLane j i) (byLane j (getD table j 0))) (sym read)
+      pair-blocks table i j z b p t h l
+      ∙ ap (λ o. prefers (x .byStream i j) o && prefers (x .byLane j i) (x .byLane j (getD table j 0))) (sym read)
       ∙ sym is
 
   -- whether a stream and the lane that it holds rank each other, by a test of the tables
-  pub stream-tested : (i : ℕ) (test : Bool) → i < s → getD bytes i 0 < g → test ≡ (isSome (byStream i (getD bytes i 0)) && isSome (byLane (getD bytes i 0) i)) → heldRanked (marketOf s g byStream byLane) (holdingOf s g bytes) i ≡ test
+  pub stream-tested : (i : ℕ) (test : Bool) → i < x .streams → getD bytes i 0 < x .lanes → test ≡ (isSome (x .byStream i (getD bytes i 0)) && isSome (x .byLane (getD bytes i 0) i)) → heldRanked (marketOf x) (holdingOf (marketOf x) bytes) i ≡ test
   stream-tested i test h l is =
-      let m = marketOf s g byStream byLane in
+      let m = marketOf x in
       let lane = getD bytes i 0 in
-      ap (ranksBoth m i) (holding-stream s g bytes i h ∙ cond-true (ltb lane g) _ _ (lt-ltb lane g l))
-      ∙ ap (λ o. isSome o && isSome (m .rank (s + lane) i)) (rank-stream s byStream byLane i lane h)
-      ∙ ap (λ o. isSome (byStream i lane) && isSome o) (rank-lane s byStream byLane lane i h)
+      ap (ranksBoth m i) (holding-stream m bytes i h ∙ cond-true (ltb lane (x .lanes)) _ _ (lt-ltb lane (x .lanes) l))
+      ∙ ap (λ o. isSome o && isSome (m .rank (x .streams + lane) i)) (rank-stream x i lane h)
+      ∙ ap (λ o. isSome (x .byStream i lane) && isSome o) (rank-lane x lane i h)
       ∙ sym is
 
-  -- a stream that holds nobody has nobody to rank
-  pub stream-alone : (i : ℕ) → i < s → g ≤ getD bytes i 0 → heldRanked (marketOf s g byStream byLane) (holdingOf s g bytes) i ≡ true
-  stream-alone i h l =
-      ap (ranksBoth (marketOf s g byStream byLane) i) (holding-stream s g bytes i h ∙ cond-false (ltb (getD bytes i 0) g) _ _ (le-ltb (getD bytes i 0) g l))
+-- a stream that holds nobody has nobody to rank
+pub stream-alone : (m : Market) (bytes : List ℕ) (i : ℕ) → i < m .streams → m .lanes ≤ getD bytes i 0 → heldRanked m (holdingOf m bytes) i ≡ true
+stream-alone m bytes i h l =
+    ap (ranksBoth m i) (holding-stream m bytes i h ∙ cond-false (ltb (getD bytes i 0) (m .lanes)) _ _ (le-ltb (getD bytes i 0) (m .lanes) l))
 
-  -- a lawful pairing in a lawful market is stable where no stream and no pair of a stream and a lane is
-  -- against it
-  pub stable-pairing : LawfulMarket (marketOf s g byStream byLane) → LawfulPairing s g bytes → RankedBelow (marketOf s g byStream byLane) (holdingOf s g bytes) s → UnblockedBelow (marketOf s g byStream byLane) (holdingOf s g bytes) s → Stable (marketOf s g byStream byLane) (holdingOf s g bytes)
-  stable-pairing lawful p ranks clear =
-      stable-from (marketOf s g byStream byLane) (holdingOf s g bytes) (lawful .across) (λ a b e. holding-mutual s g bytes a b p e) (λ a b e. ⊎-elim (λ t. inl (t .2 .0)) (λ t. inr (t .2 .0)) (holding-tells s g bytes a b p e)) ranks clear
+-- a lawful pairing in a lawful market is stable where no stream and no pair of a stream and a lane is
+-- against it
+pub stable-pairing : (m : Market) (bytes : List ℕ) → LawfulMarket m → LawfulPairing m bytes → RankedBelow m (holdingOf m bytes) (m .streams) → UnblockedBelow m (holdingOf m bytes) (m .streams) → Stable m (holdingOf m bytes)
+stable-pairing m bytes lawful p ranks clear =
+    stable-from m (holdingOf m bytes) (lawful .across) (λ a b e. holding-mutual m bytes a b p e) (λ a b e. ⊎-elim (λ t. inl (t .2 .0)) (λ t. inr (t .2 .0)) (holding-tells m bytes a b p e)) ranks clear

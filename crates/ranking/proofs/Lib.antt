@@ -1,4 +1,3 @@
-pub mod Places
 pub mod Pairings
 pub mod Holdings
 pub mod Markets

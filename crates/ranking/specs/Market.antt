@@ -29,28 +29,48 @@ pub record Market : Type 0 where
   pub lanes : ℕ
   pub rank : ℕ → ℕ → Option ℕ
 
+-- what a ranking means: its sizes and two tables, the rank that stream i gives lane j at byStream i j,
+-- and the rank that lane j gives stream i at byLane j i
+pub record Meaning : Type 0 where
+  pub streams : ℕ
+  pub lanes : ℕ
+  pub byStream : ℕ → ℕ → Option ℕ
+  pub byLane : ℕ → ℕ → Option ℕ
+
 -- the two tables as one, by party numbers: a stream ranks lanes, a lane ranks streams, and nobody
 -- ranks a party of its own side
-abbrev pub rankAcross : ℕ → (ℕ → ℕ → Option ℕ) → (ℕ → ℕ → Option ℕ) → ℕ → ℕ → Option ℕ
-rankAcross s byStream byLane p q =
-    cond (ltb p s) (cond (ltb q s) None (byStream p (q - s))) (cond (ltb q s) (byLane (p - s) q) None)
+abbrev pub rankAcross : Meaning → ℕ → ℕ → Option ℕ
+rankAcross x p q =
+    cond (ltb p (x .streams)) (cond (ltb q (x .streams)) None (x .byStream p (q - x .streams)))
+    (cond (ltb q (x .streams)) (x .byLane (p - x .streams) q) None)
 
--- the market of s streams and g lanes where stream i gives lane j the rank byStream i j, and lane j
--- gives stream i the rank byLane j i
-abbrev pub marketOf : (s g : ℕ) (byStream byLane : ℕ → ℕ → Option ℕ) → Market
-marketOf s g byStream byLane = record { streams = s; lanes = g; rank = rankAcross s byStream byLane }
+-- the market of what a ranking means
+abbrev pub marketOf : Meaning → Market
+marketOf x = record { streams = x .streams; lanes = x .lanes; rank = rankAcross x }
 
 -- one party never gives two different parties the same rank
 abbrev pub Strict : (ℕ → ℕ → Option ℕ) → Type 0
 Strict rank = (p q r k : ℕ) → rank p q ≡ Some k → rank p r ≡ Some k → q ≡ r
 
--- there are 1 to 16 streams and 1 to 16 lanes
-abbrev pub Sized : ℕ → ℕ → Type 0
-Sized s g = (1 ≤ s) × (s ≤ 16) × (1 ≤ g) × (g ≤ 16)
-
 -- a table gives a rank only within its sizes, and a rank is at most 65,535
 abbrev pub Bounded : ℕ → ℕ → (ℕ → ℕ → Option ℕ) → Type 0
 Bounded rows columns table = (i j k : ℕ) → table i j ≡ Some k → (i < rows) × (j < columns) × (k ≤ 65535)
+
+-- of s streams and g lanes, there are 1 to 16 of each
+abbrev pub Sizes : ℕ → ℕ → Type 0
+Sizes s g = (1 ≤ s) × (s ≤ 16) × (1 ≤ g) × (g ≤ 16)
+
+-- there are 1 to 16 streams and 1 to 16 lanes
+abbrev pub Sized : Meaning → Type 0
+Sized x = Sizes (x .streams) (x .lanes)
+
+-- a rank is given only to a lane or a stream that there is, and is at most 65,535
+abbrev pub BoundedRanks : Meaning → Type 0
+BoundedRanks x = Bounded (x .streams) (x .lanes) (x .byStream) × Bounded (x .lanes) (x .streams) (x .byLane)
+
+-- nobody gives two others the same rank
+abbrev pub StrictRanks : Meaning → Type 0
+StrictRanks x = Strict (x .byStream) × Strict (x .byLane)
 
 -- p and q are a stream and a lane, in this order
 abbrev pub StreamAndLane : Market → ℕ → ℕ → Type 0
@@ -59,7 +79,7 @@ StreamAndLane m p q = (p < m .streams) × (m .streams ≤ q) × (q < m .streams 
 -- what every market keeps: its sizes, ranks only between a stream and a lane and at most 65,535, and
 -- no rank given twice by one party
 pub record LawfulMarket (m : Market) : Type 0 where
-  pub sized : Sized (m .streams) (m .lanes)
+  pub sized : Sizes (m .streams) (m .lanes)
   pub across : (p q k : ℕ) → m .rank p q ≡ Some k → StreamAndLane m p q ⊎ StreamAndLane m q p
   pub bounded : (p q k : ℕ) → m .rank p q ≡ Some k → k ≤ 65535
   pub strict : Strict (m .rank)

@@ -38,15 +38,15 @@ fn is_better(first: Option<u16>, second: Option<u16>) -> bool
 
 // Whether a stream and a lane rank each other.
 fn rank_each_other<R: Ranking>(ranking: &R, stream: u8, lane: u8) -> bool
-    ensures each_ranks_the_other { λ r. ⌜ r ≡ (isSome (byStream (now (ranking .entry)) stream lane) && isSome (byLane (now (ranking .entry)) lane stream)) ⌝ }
+    ensures each_ranks_the_other { λ r. ⌜ r ≡ (isSome (meaning (now (ranking .entry)) .byStream stream lane) && isSome (meaning (now (ranking .entry)) .byLane lane stream)) ⌝ }
 {
     ranking.rank_by_stream(stream, lane).is_some() && ranking.rank_by_lane(lane, stream).is_some()
 }
 
 // The lowest stream that holds a lane where one of the two does not rank the other.
 fn first_unranked<R: Ranking>(ranking: &R, pairing: &[u8]) -> Option<u8>
-    requires not_refused { ⌜ pairingFault (streamsOf (now ranking)) (lanesOf (now ranking)) (now pairing) ≡ None ⌝ }
-    ensures is_the_first_unranked { λ r. ⌜ BySome r (RankedBelow (marketOf (streamsOf (now (ranking .entry))) (lanesOf (now (ranking .entry))) (byStream (now (ranking .entry))) (byLane (now (ranking .entry)))) (holdingOf (streamsOf (now (ranking .entry))) (lanesOf (now (ranking .entry))) (now (pairing .entry))) (streamsOf (now (ranking .entry)))) (λ i. FirstUnranked (marketOf (streamsOf (now (ranking .entry))) (lanesOf (now (ranking .entry))) (byStream (now (ranking .entry))) (byLane (now (ranking .entry)))) (holdingOf (streamsOf (now (ranking .entry))) (lanesOf (now (ranking .entry))) (now (pairing .entry))) i) ⌝ }
+    requires not_refused { ⌜ pairingFault (marketOf (meaning (now ranking))) (now pairing) ≡ None ⌝ }
+    ensures is_the_first_unranked { λ r. let m = marketOf (meaning (now (ranking .entry))) in let h = holdingOf m (now (pairing .entry)) in ⌜ BySome r (RankedBelow m h (m .streams)) (FirstUnranked m h) ⌝ }
 {
     let streams = ranking.streams();
     let lanes = ranking.lanes();
@@ -68,7 +68,7 @@ fn want_each_other<R: Ranking>(
     held: Option<u16>,
     lane_has: u8,
 ) -> bool
-    ensures each_prefers_the_other { λ r. ⌜ r ≡ (prefers (byStream (now (ranking .entry)) stream lane) held && prefers (byLane (now (ranking .entry)) lane stream) (byLane (now (ranking .entry)) lane «lane_has»)) ⌝ }
+    ensures each_prefers_the_other { λ r. ⌜ r ≡ (prefers (meaning (now (ranking .entry)) .byStream stream lane) held && prefers (meaning (now (ranking .entry)) .byLane lane stream) (meaning (now (ranking .entry)) .byLane lane «lane_has»)) ⌝ }
 {
     is_better(ranking.rank_by_stream(stream, lane), held)
         && is_better(
@@ -84,9 +84,9 @@ fn first_blocking<R: Ranking>(
     pairing: &[u8],
     table: &[u8; MOST_LANES],
 ) -> Option<(u8, u8)>
-    requires not_refused { ⌜ pairingFault (streamsOf (now ranking)) (lanesOf (now ranking)) (now pairing) ≡ None ⌝ }
+    requires not_refused { ⌜ pairingFault (marketOf (meaning (now ranking))) (now pairing) ≡ None ⌝ }
     requires table_as_told { ⌜ TableOf (now pairing) (now table) ⌝ }
-    ensures is_the_first_blocking { λ r. ⌜ BySome r (UnblockedBelow (marketOf (streamsOf (now (ranking .entry))) (lanesOf (now (ranking .entry))) (byStream (now (ranking .entry))) (byLane (now (ranking .entry)))) (holdingOf (streamsOf (now (ranking .entry))) (lanesOf (now (ranking .entry))) (now (pairing .entry))) (streamsOf (now (ranking .entry)))) (λ p. FirstBlocking (marketOf (streamsOf (now (ranking .entry))) (lanesOf (now (ranking .entry))) (byStream (now (ranking .entry))) (byLane (now (ranking .entry)))) (holdingOf (streamsOf (now (ranking .entry))) (lanesOf (now (ranking .entry))) (now (pairing .entry))) (p .0) (p .1)) ⌝ }
+    ensures is_the_first_blocking { λ r. let m = marketOf (meaning (now (ranking .entry))) in let h = holdingOf m (now (pairing .entry)) in ⌜ BySome r (UnblockedBelow m h (m .streams)) (λ p. FirstBlocking m h (p .0) (p .1)) ⌝ }
 {
     let streams = ranking.streams();
     let lanes = ranking.lanes();
@@ -106,9 +106,9 @@ fn first_blocking<R: Ranking>(
 /// Finds whether a pairing is stable under a ranking, and if not the first reason.
 /// Refuses 8 where the list is no pairing of the ranking's streams and lanes.
 pub fn find<R: Ranking>(ranking: &R, pairing: &[u8]) -> Result<Finding, Refusal>
-    ensures refused_as_told { λ r. ⌜ refusedBy r ≡ pairingFault (streamsOf (now (ranking .entry))) (lanesOf (now (ranking .entry))) (now (pairing .entry)) ⌝ }
-    ensures found_as_told { λ r. ⌜ Cases r (λ f. Found (marketOf (streamsOf (now (ranking .entry))) (lanesOf (now (ranking .entry))) (byStream (now (ranking .entry))) (byLane (now (ranking .entry)))) (holdingOf (streamsOf (now (ranking .entry))) (lanesOf (now (ranking .entry))) (now (pairing .entry))) f) (λ _. Unit {0}) ⌝ }
-    ensures stable_exactly_when { λ r. ⌜ (r ≡ Ok Finding.Stable ↔ (pairingFault (streamsOf (now (ranking .entry))) (lanesOf (now (ranking .entry))) (now (pairing .entry)) ≡ None) × Stable (marketOf (streamsOf (now (ranking .entry))) (lanesOf (now (ranking .entry))) (byStream (now (ranking .entry))) (byLane (now (ranking .entry)))) (holdingOf (streamsOf (now (ranking .entry))) (lanesOf (now (ranking .entry))) (now (pairing .entry)))) ⌝ }
+    ensures refused_as_told { λ r. ⌜ refusedBy r ≡ pairingFault (marketOf (meaning (now (ranking .entry)))) (now (pairing .entry)) ⌝ }
+    ensures found_as_told { λ r. let m = marketOf (meaning (now (ranking .entry))) in ⌜ Cases r (Found m (holdingOf m (now (pairing .entry)))) (λ _. Unit {0}) ⌝ }
+    ensures stable_exactly_when { λ r. let m = marketOf (meaning (now (ranking .entry))) in ⌜ (r ≡ Ok Finding.Stable ↔ (pairingFault m (now (pairing .entry)) ≡ None) × Stable m (holdingOf m (now (pairing .entry)))) ⌝ }
 {
     let table = lane_streams(ranking, pairing)?;
     if let Some(stream) = first_unranked(ranking, pairing) {

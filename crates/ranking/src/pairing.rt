@@ -1,6 +1,7 @@
 ghost use mathlib.Core.Path.{_≡_};
 ghost use Rattle.std.specs.Results.{Cases};
 ghost use Rattle.record.specs.Refusals.{refusedBy};
+ghost use Rattle.ranking.specs.Market.{marketOf};
 ghost use Rattle.ranking.specs.Pairings.{pairingFault, TableOf};
 use crate::interface::Ranking;
 use record::refusal::Refusal;
@@ -16,9 +17,12 @@ pub const MOST_LANES: usize = 16;
 
 /// The stream of each lane under a pairing, 255 for a lane that nobody has.
 /// Refuses 8 where the list is no pairing of the ranking's streams and lanes.
-pub fn lane_streams<R: Ranking>(ranking: &R, pairing: &[u8]) -> Result<[u8; MOST_LANES], Refusal>
-    ensures refused_as_told { λ r. ⌜ refusedBy r ≡ pairingFault (streamsOf (now (ranking .entry))) (lanesOf (now (ranking .entry))) (now (pairing .entry)) ⌝ }
-    ensures table_as_told { λ r. ⌜ Cases r (λ table. TableOf (now (pairing .entry)) table) (λ _. Unit {0}) ⌝ }
+pub(crate) fn lane_streams<R: Ranking>(
+    ranking: &R,
+    pairing: &[u8],
+) -> Result<[u8; MOST_LANES], Refusal>
+    ensures refused_as_told { λ r. ⌜ refusedBy r ≡ pairingFault (marketOf (meaning (now (ranking .entry)))) (now (pairing .entry)) ⌝ }
+    ensures table_as_told { λ r. ⌜ Cases r (TableOf (now (pairing .entry))) (λ _. Unit {0}) ⌝ }
 {
     let streams = ranking.streams();
     let lanes = ranking.lanes();
@@ -42,7 +46,7 @@ pub fn lane_streams<R: Ranking>(ranking: &R, pairing: &[u8]) -> Result<[u8; MOST
 
 /// Refuses 8 where the list is no pairing of the ranking's streams and lanes.
 pub fn check_pairing<R: Ranking>(ranking: &R, pairing: &[u8]) -> Result<(), Refusal>
-    ensures refused_as_told { λ r. ⌜ refusedBy r ≡ pairingFault (streamsOf (now (ranking .entry))) (lanesOf (now (ranking .entry))) (now (pairing .entry)) ⌝ }
+    ensures refused_as_told { λ r. ⌜ refusedBy r ≡ pairingFault (marketOf (meaning (now (ranking .entry)))) (now (pairing .entry)) ⌝ }
 {
     lane_streams(ranking, pairing)?;
     Ok(())

@@ -6,15 +6,16 @@ use mathlib.Core.Logic.{⊎-elim}
 use Prim.Native.Nat.{ℕ, zero, suc, _+_, _-_, _<_, _≤_}
 use native.Mathlib.Numerals.{add-one}
 use native.Mathlib.Omega.{arith}
-use lib.ListN.{length}
+use lib.ListN.{length, getD}
 use lib.Dec.{eqb, leb, ltb}
+use Rattle.std.specs.Options.{isSome}
 use Rattle.std.specs.declared.option.Option.{Option}
 use Rattle.std.specs.declared.option.Option.the-variants.{None, Some}
 use Rattle.std.specs.shelf.Lists.{kept-by, All}
-use Rattle.std.proofs.shelf.Tests.{and-parts, or-parts, or-from, cases-order, cond-both, not-true, not-false, eqb-false, ne-eqb, eqb-true}
+use Rattle.std.proofs.shelf.Tests.{and-parts, or-parts, or-from, or-left, or-right, cases-order, cond-both, not-true, not-false, eqb-false, eq-eqb, ne-eqb, eqb-true}
 use Rattle.std.proofs.shelf.Ways.{tells}
 use Rattle.record.specs.Refusals.{orElse}
-use Rattle.record.specs.Lists.{every, among, Distinct, earliest}
+use Rattle.record.specs.Lists.{every, among, Distinct, next, placeIn, earliest}
 
 and-assoc : (a b c : Bool) → (a && (b && c)) ≡ ((a && b) && c)
 and-assoc true b c = refl
@@ -156,3 +157,54 @@ few-distinct zero [] d a = omega arith
 few-distinct zero (x ∷ xs) d a = absurd (let h = a .0 in omega arith)
 few-distinct (suc n) xs d a =
     omega (arith, one-dropped n xs d, few-distinct n (kept-by (other n) xs) (distinct-kept (other n) xs d) (below-kept n xs a))
+
+-- Of the place of a number in a list: who has one, what stands there, and one more at the end.
+some-next : (o : Option ℕ) → isSome (next o) ≡ isSome o
+some-next None = refl
+some-next (Some k) = refl
+
+next-none : (o : Option ℕ) → next o ≡ None → o ≡ None
+next-none None e = refl
+next-none (Some k) e = cc
+
+-- a member has a place, and what has a place is a member
+pub among-place : (x : ℕ) (xs : List ℕ) → among x xs ≡ isSome (placeIn x xs)
+among-place x [] = refl
+among-place x (y ∷ ys) = go (eqb x y) (among-place x ys)
+  where
+    go : (b : Bool) → among x ys ≡ isSome (placeIn x ys) → (b || among x ys) ≡ isSome (cond b (Some 0) (next (placeIn x ys)))
+    go true e = refl
+    go false e = e ∙ sym (some-next (placeIn x ys))
+
+-- what stands somewhere in the list is a member
+pub among-from : (x : ℕ) (xs : List ℕ) (i : ℕ) → i < length xs → getD xs i 0 ≡ x → among x xs ≡ true
+among-from x [] i h e = absurd (omega arith)
+among-from x (z ∷ zs) zero h e = or-left (eqb x z) (among x zs) (eq-eqb x z (sym e))
+among-from x (z ∷ zs) (suc i) h e = or-right (eqb x z) (among x zs) (among-from x zs i (omega arith) e)
+
+-- at its place stands the member
+pub place-at : (x : ℕ) (xs : List ℕ) (k : ℕ) → placeIn x xs ≡ Some k → (k < length xs) × (getD xs k 0 ≡ x)
+place-at x [] k e = absurd (let z : _≡_ {A = ℕ} 0 1 = cc in omega arith)
+place-at x (z ∷ zs) k e = go (eqb x z) (placeIn x zs) refl e (place-at x zs)
+  where
+    go : (b : Bool) (o : Option ℕ) → eqb x z ≡ b → cond b (Some 0) (next o) ≡ Some k → ((l : ℕ) → o ≡ Some l → (l < length zs) × (getD zs l 0 ≡ x)) → (k < suc (length zs)) × (getD (z ∷ zs) k 0 ≡ x)
+    go true o q e r = let n : 0 ≡ k = cc in (omega arith, rw (← n) (sym (eqb-true x z q)))
+    go false None q e r = absurd (let z : _≡_ {A = ℕ} 0 1 = cc in omega arith)
+    go false (Some l) q e r =
+        let n : l + 1 ≡ k = cc in
+        let m : suc l ≡ k = omega arith in
+        (omega (arith, r l refl .0), rw (← m) (r l refl .1))
+
+-- one more at the end: another number's place stays
+pub place-push-other : (x y : ℕ) (xs : List ℕ) → eqb x y ≡ false → placeIn x (xs ++ y ∷ []) ≡ placeIn x xs
+place-push-other x y [] e = ap (λ b. cond b (Some 0) None) e
+place-push-other x y (z ∷ zs) e = ap (λ o. cond (eqb x z) (Some 0) (next o)) (place-push-other x y zs e)
+
+-- one more at the end: a number that was not there has the last place
+pub place-push-new : (x : ℕ) (xs : List ℕ) → placeIn x xs ≡ None → placeIn x (xs ++ x ∷ []) ≡ Some (length xs)
+place-push-new x [] e = ap (λ b. cond b (Some 0) None) (eq-eqb x x refl)
+place-push-new x (z ∷ zs) e = go (eqb x z) e (place-push-new x zs)
+  where
+    go : (b : Bool) → cond b (Some 0) (next (placeIn x zs)) ≡ None → (placeIn x zs ≡ None → placeIn x (zs ++ x ∷ []) ≡ Some (length zs)) → cond b (Some 0) (next (placeIn x (zs ++ x ∷ []))) ≡ Some (suc (length zs))
+    go true e f = absurd (let z : _≡_ {A = ℕ} 0 1 = cc in omega arith)
+    go false e f = ap next (f (next-none (placeIn x zs) e)) ∙ ap Some (add-one (length zs))

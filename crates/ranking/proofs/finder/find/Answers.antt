@@ -13,19 +13,17 @@ use Rattle.ranking.proofs.finder.find.Needs as need
 
 pub returns-in-None : need.returns-in-None
 returns-in-None g c =
-    let R = g .R·Ranking in
-    let x = c .args .ranking .now in
-    let s = R .streamsOf x in
-    let n = R .lanesOf x in
+    let x = g .R·Ranking .meaning (c .args .ranking .now) in
+    let m = marketOf x in
     let bytes = c .args .pairing .now in
     let met = g .R·Ranking·met in
-    let lawful = lawful-market s n (R .byStream x) (R .byLane x) (met .sized x) (met .bounded x .0) (met .bounded x .1) (met .strict x .0) (met .strict x .1) in
+    let lawful = lawful-market x (met .sized (c .args .ranking .now)) (met .bounded (c .args .ranking .now)) (met .strict (c .args .ranking .now)) in
     let fine = c .in-Continue-table .ensures tt .refused-as-told in
-    let stable : Stable (marketOf s n (R .byStream x) (R .byLane x)) (holdingOf s n bytes) =
-    stable-pairing s n (R .byStream x) (R .byLane x) bytes lawful (lawful-from-fault s n bytes (sym {a = None} {b = pairingFault s n bytes} fine))
+    let stable : Stable m (holdingOf m bytes) =
+    stable-pairing m bytes lawful (lawful-from-fault m bytes (sym {a = None} {b = pairingFault m bytes} fine))
     (c .in-rest .ensures tt .is-the-first-unranked) (c .in-None .ensures tt .is-the-first-blocking) in
     record {
       refused-as-told = fine;
       found-as-told = stable;
-      stable-exactly-when = stable-answer (marketOf s n (R .byStream x) (R .byLane x)) (holdingOf s n bytes) (pairingFault s n bytes) (Ok Finding.Stable) fine stable;
+      stable-exactly-when = stable-answer m (holdingOf m bytes) (pairingFault m bytes) (Ok Finding.Stable) fine stable;
     }

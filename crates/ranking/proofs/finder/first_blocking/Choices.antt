@@ -8,15 +8,11 @@ use Rattle.ranking.proofs.finder.first_blocking.Given as given
 -- no lane so far blocks with the stream
 abbrev pub Inv-loop-lane : given.InvT-loop-lane
 Inv-loop-lane g l =
-    let s = g .R·Ranking .streamsOf (l .ranking) in
-    let n = g .R·Ranking .lanesOf (l .ranking) in
-    (l .found ≡ None)
-    × UnblockedBefore (marketOf s n (g .R·Ranking .byStream (l .ranking)) (g .R·Ranking .byLane (l .ranking))) (holdingOf s n (l .pairing)) (l .stream) (l .lane)
+    let m = marketOf (g .R·Ranking .meaning (l .ranking)) in
+    (l .found ≡ None) × UnblockedBefore m (holdingOf m (l .pairing)) (l .stream) (l .lane)
 
 -- no stream so far blocks with any lane
 abbrev pub Inv-search : given.InvT-search
 Inv-search g l =
-    let s = g .R·Ranking .streamsOf (l .ranking) in
-    let n = g .R·Ranking .lanesOf (l .ranking) in
-    (l .found ≡ None)
-    × UnblockedBelow (marketOf s n (g .R·Ranking .byStream (l .ranking)) (g .R·Ranking .byLane (l .ranking))) (holdingOf s n (l .pairing)) (l .stream)
+    let m = marketOf (g .R·Ranking .meaning (l .ranking)) in
+    (l .found ≡ None) × UnblockedBelow m (holdingOf m (l .pairing)) (l .stream)

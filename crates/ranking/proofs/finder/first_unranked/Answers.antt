@@ -12,13 +12,12 @@ use Rattle.ranking.proofs.finder.first_unranked.Needs.{else-lane-lanes·by·th
 
 pub returns-then-not-rank-each-other : need.returns-then-not-rank-each-other
 returns-then-not-rank-each-other g c =
-    let R = g .R·Ranking in
-    let x = c .args .ranking .now in
+    let x = g .R·Ranking .meaning (c .args .ranking .now) in
     record {
       is-the-first-unranked = record {
         stream = omega arith;
         unranked =
-            stream-tested (R .streamsOf x) (R .lanesOf x) (R .byStream x) (R .byLane x) (c .args .pairing .now) (c .loop-stream .stream) false (omega arith) (omega arith)
+            stream-tested x (c .args .pairing .now) (c .loop-stream .stream) false (omega arith) (omega arith)
             (c .if-not-rank-each-other .ensures tt .each-ranks-the-other);
         above = c .loop-stream .inv;
       };
@@ -26,18 +25,14 @@ returns-then-not-rank-each-other g c =
 
 pub loop-stream-again : need.loop-stream-again
 loop-stream-again g c =
-    let R = g .R·Ranking in
-    let x = c .args .ranking .now in
-    let s = R .streamsOf x in
-    let n = R .lanesOf x in
+    let x = g .R·Ranking .meaning (c .args .ranking .now) in
+    let m = marketOf x in
     let bytes = c .args .pairing .now in
     let i = c .loop-stream .stream in
-    let Ranked : ℕ → Type 0 = λ k. heldRanked (marketOf s n (R .byStream x) (R .byLane x)) (holdingOf s n bytes) k ≡ true in
+    let Ranked : ℕ → Type 0 = λ k. heldRanked m (holdingOf m bytes) k ≡ true in
     let here : Ranked i = elim (c .else-lane-lanes .came) [
       | else-lane-lanes·by·then-lane-lanes·else-not-rank-each-other w ↦
-          stream-tested s n (R .byStream x) (R .byLane x) bytes i true (omega arith) (omega arith)
-          (w .if-not-rank-each-other .ensures tt .each-ranks-the-other)
-      | else-lane-lanes·by·else-lane-lanes w ↦
-          stream-alone s n (R .byStream x) (R .byLane x) bytes i (omega arith) (omega arith)
+          stream-tested x bytes i true (omega arith) (omega arith) (w .if-not-rank-each-other .ensures tt .each-ranks-the-other)
+      | else-lane-lanes·by·else-lane-lanes w ↦ stream-alone m bytes i (omega arith) (omega arith)
     ] in
     below-more Ranked i (c .loop-stream .inv) here

@@ -6,6 +6,5 @@ use Rattle.ranking.proofs.finder.first_unranked.Given as given
 -- each stream so far holds nobody, or somebody where both rank each other
 abbrev pub Inv-loop-stream : given.InvT-loop-stream
 Inv-loop-stream g l =
-    let s = g .R·Ranking .streamsOf (l .ranking) in
-    let n = g .R·Ranking .lanesOf (l .ranking) in
-    RankedBelow (marketOf s n (g .R·Ranking .byStream (l .ranking)) (g .R·Ranking .byLane (l .ranking))) (holdingOf s n (l .pairing)) (l .stream)
+    let m = marketOf (g .R·Ranking .meaning (l .ranking)) in
+    RankedBelow m (holdingOf m (l .pairing)) (l .stream)
