@@ -19,9 +19,11 @@ use Rattle.record.specs.Format.{Content, Lawful, parties, facing, choiceWords}
 use Rattle.record.proofs.Contents.{few-parties}
 use Rattle.record.proofs.Lawfuls.{choices-ranked, choice-kind, choice-owner, choice-member, choice-place, choice-new, choice-few}
 use Rattle.record.proofs.Scanning.{rankedBy-push, rankedBy-other}
+use Rattle.std.proofs.shelf.Ways.{tells}
+use Rattle.ranking.specs.Market.{Strict}
 use Rattle.ranking.specs.Places.{entry, placeAt, DistinctPlaces, Enterable, Entered}
 use Rattle.ranking.specs.Listings.{tableMeaning, contentMeaning}
-use Rattle.ranking.proofs.Places.{among-place, place-at, place-push-other, place-push-new}
+use Rattle.record.proofs.Lists.{among-place, place-at, place-push-other, place-push-new}
 
 -- the empty table
 pub no-entry : (n k : ℕ) → _≡_ {A = ℕ} (getD (replicate n 255) k 255) 255
@@ -166,3 +168,17 @@ table-content c law ws places s g words known es eg =
         lanes = c .lanes;
         byStream = λ i j. by-stream c law ws places words known i j k;
         byLane = λ j i. by-lane c law ws places words known j i k })
+
+-- what a rank of a table tells
+pub rank-told : (places : List ℕ) (n m i j p q k : ℕ) → cond (ltb i n) (cond (ltb j m) (placeAt places p q) None) None ≡ Some k → (i < n) × (j < m) × (entry places p q ≡ k) × (k < 255)
+rank-told places n m i j p q k e = grind (arith, tells)
+
+-- no two parties have one rank
+pub table-strict : (places : List ℕ) (n m : ℕ) (row : ℕ → ℕ) → m ≤ 16 → DistinctPlaces places → Strict (λ i j. cond (ltb i n) (cond (ltb j m) (placeAt places (row i) j) None) None)
+table-strict places n m row few distinct i j l k a b =
+    let x = rank-told places n m i j (row i) j k a in
+    let y = rank-told places n m i l (row i) l k b in
+    let small : entry places (row i) j < 255 = subst (λ v. v < 255) (sym (x .2)) (x .3) in
+    let j16 = x .1 in
+    let l16 = y .1 in
+    distinct (row i, j, l) (omega arith, omega arith, small, x .2 ∙ sym (y .2))

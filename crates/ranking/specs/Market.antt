@@ -29,14 +29,6 @@ pub record Market : Type 0 where
   pub lanes : ℕ
   pub rank : ℕ → ℕ → Option ℕ
 
--- what a ranking means: its sizes and two tables, the rank that stream i gives lane j at byStream i j,
--- and the rank that lane j gives stream i at byLane j i
-pub record Meaning : Type 0 where
-  pub streams : ℕ
-  pub lanes : ℕ
-  pub byStream : ℕ → ℕ → Option ℕ
-  pub byLane : ℕ → ℕ → Option ℕ
-
 -- the two tables as one, by party numbers: a stream ranks lanes, a lane ranks streams, and nobody
 -- ranks a party of its own side
 abbrev pub rankAcross : Meaning → ℕ → ℕ → Option ℕ

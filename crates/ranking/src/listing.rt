@@ -7,8 +7,9 @@ ghost use Rattle.std.specs.Results.{Cases};
 ghost use Rattle.record.specs.Refusals.{refusedBy};
 ghost use Rattle.record.specs.Format.{Content, Records};
 ghost use Rattle.record.specs.Reading.{PartsOf};
-ghost use Rattle.ranking.specs.Places.{Enterable, Entered};
+ghost use Rattle.ranking.specs.Places.{placeAt, Enterable, Entered};
 ghost use Rattle.ranking.specs.Listings.{listed, unlisted, contentMeaning, fillFault};
+use crate::interface::Ranking;
 use crate::table::Listing;
 use crate::table::TABLE;
 use record::read::Parts;
@@ -61,5 +62,42 @@ impl Listing {
         let places = places_of(parts.choices.words);
         *self = Listing { streams: parts.streams, lanes: parts.lanes, places, filled: true };
         Ok(parts)
+    }
+}
+
+// What the table says of number `ranked` in row `row`.
+fn place_in(places: &[u8; TABLE], row: u8, ranked: u8) -> Option<u16>
+    requires inside { ⌜ (row < 32) × (ranked < 16) ⌝ }
+    ensures is_the_place { λ r. ⌜ r ≡ placeAt (now (places .entry)) row ranked ⌝ }
+{
+    let place = places[16 * row as usize + ranked as usize];
+    if place < NO_PLACE { Some(place as u16) } else { None }
+}
+
+pub impl Ranking for Listing as ListingRanking {
+    ghost meaning = { listed };
+
+    fn streams(&self) -> u8 {
+        self.streams
+    }
+
+    fn lanes(&self) -> u8 {
+        self.lanes
+    }
+
+    fn rank_by_stream(&self, stream: u8, lane: u8) -> Option<u16> {
+        if stream < self.streams && lane < self.lanes {
+            place_in(&self.places, stream, lane)
+        } else {
+            None
+        }
+    }
+
+    fn rank_by_lane(&self, lane: u8, stream: u8) -> Option<u16> {
+        if lane < self.lanes && stream < self.streams {
+            place_in(&self.places, self.streams + lane, stream)
+        } else {
+            None
+        }
     }
 }
