@@ -35,6 +35,7 @@ fn put_pairs(out: &mut [u8], judged: &Judged) -> usize
 /// Refuses 9 with place 512 where the list is shorter than that.
 pub fn judged_text(judged: &Judged, text: &mut [u8]) -> Result<usize, Refusal>
     ensures refused_as_told { λ r. ⌜ refusedBy r ≡ refuseIf (ltb (length (now (text .entry))) 512) (9, 512) ⌝ }
+    ensures within_the_list { λ r. ⌜ Cases r (λ n. n ≤ length (now (text .entry))) (λ _. Unit {0}) ⌝ }
     ensures text_or_unchanged { λ r. ⌜ Cases r (λ n. WrittenFront (judgedText (now (judged .entry))) (now (text .entry)) (now (text .exit)) n) (λ _. now (text .exit) ≡ now (text .entry)) ⌝ }
 {
     if text.len() < TEXT_ROOM {
@@ -48,6 +49,7 @@ pub fn judged_text(judged: &Judged, text: &mut [u8]) -> Result<usize, Refusal>
 /// Refuses 9 with place 512 where the list is shorter than that.
 pub fn refusal_text(refusal: Refusal, text: &mut [u8]) -> Result<usize, Refusal>
     ensures refused_as_told { λ r. ⌜ refusedBy r ≡ refuseIf (ltb (length (now (text .entry))) 512) (9, 512) ⌝ }
+    ensures within_the_list { λ r. ⌜ Cases r (λ n. n ≤ length (now (text .entry))) (λ _. Unit {0}) ⌝ }
     ensures text_or_unchanged { λ r. ⌜ Cases r (λ n. WrittenFront (line (refusalText (codeOf refusal))) (now (text .entry)) (now (text .exit)) n) (λ _. now (text .exit) ≡ now (text .entry)) ⌝ }
 {
     if text.len() < TEXT_ROOM {

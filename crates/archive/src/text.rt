@@ -105,6 +105,7 @@ fn put_answer(out: &mut [u8], at: usize, finding: Finding) -> usize
 /// Writes the line of what the finder answered.
 pub fn put_finding(out: &mut [u8], at: usize, finding: Finding) -> usize
     requires there_is_room { ⌜ at + 21 ≤ length (now out) ⌝ }
+    ensures takes_at_most_twenty_one { λ r. ⌜ r ≤ at + 21 ⌝ }
     ensures wrote_the_line { λ r. ⌜ Wrote (now (out .entry)) at (line (findingText finding)) (now (out .exit)) r ⌝ }
 {
     let end = put_answer(out, at, finding);
@@ -114,6 +115,7 @@ pub fn put_finding(out: &mut [u8], at: usize, finding: Finding) -> usize
 /// Writes the line of a refusal.
 pub fn put_refusal(out: &mut [u8], at: usize, refusal: Refusal) -> usize
     requires there_is_room { ⌜ at + 23 ≤ length (now out) ⌝ }
+    ensures takes_at_most_twenty_three { λ r. ⌜ r ≤ at + 23 ⌝ }
     ensures wrote_the_line { λ r. ⌜ Wrote (now (out .entry)) at (line (refusalText (codeOf refusal))) (now (out .exit)) r ⌝ }
 {
     let number = put(out, at, b"refused ");

@@ -28,6 +28,7 @@ fn word_at(bytes: &[u8], k: usize) -> u32
 /// Refuses 1 where the bytes are no record's, then 9 where the list is too short.
 pub fn words_of(bytes: &[u8], words: &mut [u32]) -> Result<usize, Refusal>
     ensures refused_as_told { λ r. ⌜ refusedBy r ≡ bytesFault (now (bytes .entry)) (length (now (words .entry))) ⌝ }
+    ensures within_the_list { λ r. ⌜ Cases r (λ n. n ≤ length (now (words .entry))) (λ _. Unit {0}) ⌝ }
     ensures words_or_unchanged { λ r. ⌜ Cases r (λ n. WrittenFront (wordsOf (now (bytes .entry))) (now (words .entry)) (now (words .exit)) n) (λ _. now (words .exit) ≡ now (words .entry)) ⌝ }
 {
     let count = bytes.len() / 4;

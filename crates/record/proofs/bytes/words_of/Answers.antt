@@ -35,6 +35,7 @@ returns c =
     let left = c .loop-k .inv .1 in
     record {
       refused-as-told = grind (arith, tells);
+      within-the-list = c .if-words-count .left;
       words-or-unchanged = record {
         count = sym (length-map-counting (wordAt bs) 0 (length bs / 4));
         front = rw e at taken;
