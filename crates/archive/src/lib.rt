@@ -4,3 +4,6 @@ mod text;
 pub mod judged;
 pub mod judge;
 pub mod say;
+
+#[cfg(test)]
+mod tests;
