@@ -11,7 +11,7 @@ use ranking::pairing::NOBODY;
 use record::refusal::Refusal;
 
 /// Writes the bytes at a place, and answers the next place.
-pub fn put(out: &mut [u8], at: usize, bytes: &[u8]) -> usize
+pub(crate) fn put(out: &mut [u8], at: usize, bytes: &[u8]) -> usize
     requires there_is_room { ⌜ at + length (now bytes) ≤ length (now out) ⌝ }
     ensures goes_on_after_them { λ r. ⌜ r ≡ at + length (now (bytes .entry)) ⌝ }
     ensures wrote_the_bytes { λ r. ⌜ Wrote (now (out .entry)) at (now (bytes .entry)) (now (out .exit)) r ⌝ }
@@ -23,7 +23,7 @@ pub fn put(out: &mut [u8], at: usize, bytes: &[u8]) -> usize
 }
 
 /// Writes a number in decimal at a place, and answers the next place.
-pub fn put_number(out: &mut [u8], at: usize, number: u16) -> usize
+pub(crate) fn put_number(out: &mut [u8], at: usize, number: u16) -> usize
     requires there_is_room { ⌜ at + length (decimal number) ≤ length (now out) ⌝ }
     ensures takes_at_most_five { λ r. ⌜ r ≤ at + 5 ⌝ }
     ensures wrote_the_number { λ r. ⌜ Wrote (now (out .entry)) at (decimal number) (now (out .exit)) r ⌝ }
@@ -61,7 +61,7 @@ fn put_holding(out: &mut [u8], at: usize, lane: u8) -> usize
 }
 
 /// Writes the line of a stream and its lane, 255 for nobody.
-pub fn put_pair(out: &mut [u8], at: usize, stream: u8, lane: u8) -> usize
+pub(crate) fn put_pair(out: &mut [u8], at: usize, stream: u8, lane: u8) -> usize
     requires there_is_room { ⌜ at + 10 ≤ length (now out) ⌝ }
     ensures takes_at_most_ten { λ r. ⌜ r ≤ at + 10 ⌝ }
     ensures wrote_the_line { λ r. ⌜ Wrote (now (out .entry)) at (pairLine stream lane) (now (out .exit)) r ⌝ }
@@ -103,7 +103,7 @@ fn put_answer(out: &mut [u8], at: usize, finding: Finding) -> usize
 }
 
 /// Writes the line of what the finder answered.
-pub fn put_finding(out: &mut [u8], at: usize, finding: Finding) -> usize
+pub(crate) fn put_finding(out: &mut [u8], at: usize, finding: Finding) -> usize
     requires there_is_room { ⌜ at + 21 ≤ length (now out) ⌝ }
     ensures takes_at_most_twenty_one { λ r. ⌜ r ≤ at + 21 ⌝ }
     ensures wrote_the_line { λ r. ⌜ Wrote (now (out .entry)) at (line (findingText finding)) (now (out .exit)) r ⌝ }
@@ -113,7 +113,7 @@ pub fn put_finding(out: &mut [u8], at: usize, finding: Finding) -> usize
 }
 
 /// Writes the line of a refusal.
-pub fn put_refusal(out: &mut [u8], at: usize, refusal: Refusal) -> usize
+pub(crate) fn put_refusal(out: &mut [u8], at: usize, refusal: Refusal) -> usize
     requires there_is_room { ⌜ at + 23 ≤ length (now out) ⌝ }
     ensures takes_at_most_twenty_three { λ r. ⌜ r ≤ at + 23 ⌝ }
     ensures wrote_the_line { λ r. ⌜ Wrote (now (out .entry)) at (line (refusalText (codeOf refusal))) (now (out .exit)) r ⌝ }

@@ -76,16 +76,21 @@ going-step ws k a i g h e f =
       kinds = ap (every (λ v. eqb (kind v) k)) (between-more ws a i 0 (g .from) (g .to)) ∙ every-push (λ v. eqb (kind v) k) (between a i ws) w ∙ and-from _ _ (g .kinds) (eq-eqb (kind w) k e);
       least = λ v. inr (λ s. omega (arith, not-lower (take i ws) w v (ap (λ l. allowed l v false) (sym more) ∙ s))) }
 
-pub going-stops : (ws : List ℕ) (k a i : ℕ) → Going ws k a i → (kind (getD ws i 0) ≡ k → ⊥) → PartRead ws k a i
-going-stops ws k a i g ne = record {
+-- the part ends at i, where no word that may stand there is of its kind
+part-ends : (ws : List ℕ) (k a i : ℕ) → Going ws k a i → (i + 1 < length ws → allowed (take i ws) (getD ws i 0) false ≡ true → k + 1 ≤ kind (getD ws i 0)) → PartRead ws k a i
+part-ends ws k a i g ahead′ = record {
     from = g .from;
     reached = record {
       inside = g .to;
       some = omega (arith, g .from, g .start .some);
       clean = g .clean;
       below = g .below;
-      ahead = λ h s. ⊎-elim (λ e. first e h s) (λ f. let l : k ≤ kind (getD ws i 0) = f s in omega arith) (g .least (getD ws i 0)) };
+      ahead = ahead′ };
     kinds = g .kinds }
+
+pub going-stops : (ws : List ℕ) (k a i : ℕ) → Going ws k a i → (kind (getD ws i 0) ≡ k → ⊥) → PartRead ws k a i
+going-stops ws k a i g ne =
+    part-ends ws k a i g (λ h s. ⊎-elim (λ e. first e h s) (λ f. let l : k ≤ kind (getD ws i 0) = f s in omega arith) (g .least (getD ws i 0)))
   where
     first : i ≡ a → i + 1 < length ws → allowed (take i ws) (getD ws i 0) false ≡ true → k + 1 ≤ kind (getD ws i 0)
     first e h s =
@@ -95,15 +100,7 @@ going-stops ws k a i g ne = record {
         omega arith
 
 pub going-ends : (ws : List ℕ) (k a i : ℕ) → Going ws k a i → i + 1 ≡ length ws → PartRead ws k a i
-going-ends ws k a i g e = record {
-    from = g .from;
-    reached = record {
-      inside = g .to;
-      some = omega (arith, g .from, g .start .some);
-      clean = g .clean;
-      below = g .below;
-      ahead = λ h s. absurd (omega arith) };
-    kinds = g .kinds }
+going-ends ws k a i g e = part-ends ws k a i g (λ h s. absurd (omega arith))
 
 pub going-fault : (ws : List ℕ) (k a i : ℕ) (code : ℕ × ℕ) → Going ws k a i → faultAt ws i ≡ Some code → earliest (faultAt ws) (length ws) ≡ Some code
 going-fault ws k a i code g f = earliest-found (faultAt ws) i (length ws) code (g .to) (g .clean) f

@@ -17,7 +17,7 @@ use crate::word::low_byte;
 use crate::word::middle_byte;
 
 /// The most turns of a record.
-pub const MOST_TURNS: u16 = 7600;
+pub(crate) const MOST_TURNS: u16 = 7600;
 
 // Whether a choice has no unnamed bit, and its owner and ranked party are parties of the two sides.
 fn choice_within(sizes: Sizes, word: u32) -> bool
@@ -33,7 +33,7 @@ fn choice_within(sizes: Sizes, word: u32) -> bool
 
 impl ChoiceScan {
     /// Before the first choice.
-    pub fn new() -> ChoiceScan
+    pub(crate) fn new() -> ChoiceScan
         ensures has_seen_no_choice { λ r. ⌜ ((before : List ℕ) → KindsBelow 2 before → ChoicesSeen r before) ⌝ }
     {
         ChoiceScan { owner: 0, next: 0, named: Members::none() }
@@ -52,7 +52,7 @@ impl ChoiceScan {
     }
 
     /// Reads one more choice, the word at `at`.
-    pub fn choice(&mut self, sizes: Sizes, word: u32, at: u16) -> Result<(), Refusal>
+    pub(crate) fn choice(&mut self, sizes: Sizes, word: u32, at: u16) -> Result<(), Refusal>
         requires is_a_choice { ⌜ kind word ≡ 2 ⌝ }
         ensures refused_as_told { λ r. ⌜ ((before : List ℕ) → ChoicesSeen (now (self .entry)) before → refusedBy r ≡ orElse (refuseIf (not (choiceWithin (sizes .streams) (sizes .lanes) word)) (3, at)) (refuseIf (not (choiceInOrder before word)) (4, at))) ⌝ }
         ensures has_seen_one_more { λ r. ⌜ ((before : List ℕ) → ChoicesSeen (now (self .entry)) before → refusedBy r ≡ None → ChoicesSeen (now (self .exit)) (before ++ word ∷ [])) ⌝ }
@@ -78,14 +78,14 @@ impl ChoiceScan {
 
 impl TurnScan {
     /// Before the first turn.
-    pub fn new() -> TurnScan
+    pub(crate) fn new() -> TurnScan
         ensures has_seen_no_turn { λ r. ⌜ ((before : List ℕ) → KindsBelow 3 before → TurnsSeen r before) ⌝ }
     {
         TurnScan { count: 0 }
     }
 
     /// Reads one more turn, the word at `at`.
-    pub fn turn(&mut self, sizes: Sizes, word: u32, at: u16) -> Result<(), Refusal>
+    pub(crate) fn turn(&mut self, sizes: Sizes, word: u32, at: u16) -> Result<(), Refusal>
         requires is_a_turn { ⌜ kind word ≡ 3 ⌝ }
         ensures refused_as_told { λ r. ⌜ ((before : List ℕ) → TurnsSeen (now (self .entry)) before → refusedBy r ≡ orElse (refuseIf (not (turnWithin (sizes .streams) (sizes .lanes) word)) (3, at)) (refuseIf (not (turnInOrder before)) (4, at))) ⌝ }
         ensures has_seen_one_more { λ r. ⌜ ((before : List ℕ) → TurnsSeen (now (self .entry)) before → refusedBy r ≡ None → TurnsSeen (now (self .exit)) (before ++ word ∷ [])) ⌝ }
@@ -110,14 +110,14 @@ fn pair_within(sizes: Sizes, word: u32) -> bool
 
 impl PairScan {
     /// Before the first pair.
-    pub fn new() -> PairScan
+    pub(crate) fn new() -> PairScan
         ensures has_seen_no_pair { λ r. ⌜ ((before : List ℕ) → KindsBelow 4 before → PairsSeen r before) ⌝ }
     {
         PairScan { floor: 0, given: Members::none() }
     }
 
     /// Reads one more pair, the word at `at`.
-    pub fn pair(&mut self, sizes: Sizes, word: u32, at: u16) -> Result<(), Refusal>
+    pub(crate) fn pair(&mut self, sizes: Sizes, word: u32, at: u16) -> Result<(), Refusal>
         requires is_a_pair { ⌜ kind word ≡ 4 ⌝ }
         ensures refused_as_told { λ r. ⌜ ((before : List ℕ) → PairsSeen (now (self .entry)) before → refusedBy r ≡ orElse (refuseIf (not (pairWithin (sizes .streams) (sizes .lanes) word)) (3, at)) (refuseIf (not (pairInOrder before word)) (4, at))) ⌝ }
         ensures has_seen_one_more { λ r. ⌜ ((before : List ℕ) → PairsSeen (now (self .entry)) before → refusedBy r ≡ None → PairsSeen (now (self .exit)) (before ++ word ∷ [])) ⌝ }

@@ -83,7 +83,7 @@ pub impl Scan for PairScan as ScanPairs {
 }
 
 /// Reads the words of one kind from `from` on, and answers where they end.
-pub fn read_part<S: Scan + Drop>(words: &[u32], sizes: Sizes, from: usize, scan: S) -> Result<usize, Refusal>
+pub(crate) fn read_part<S: Scan + Drop>(words: &[u32], sizes: Sizes, from: usize, scan: S) -> Result<usize, Refusal>
     requires few { ⌜ length (now words) ≤ 8192 ⌝ }
     requires sizes_of_the_head { ⌜ (sizes .streams ≡ middle (getD (now words) 0 0)) × (sizes .lanes ≡ low (getD (now words) 0 0)) ⌝ }
     requires a_middle_kind { ⌜ (2 ≤ scans scan) × (scans scan ≤ 4) ⌝ }
