@@ -300,32 +300,53 @@ fn bytes_become_words() -> Result<(), Fail> {
     check_eq(shorter, [7])
 }
 
-// The code of the first `count` words, or 255 where there are fewer.
-fn code_of_front(words: &[u32], count: usize) -> (u8, u16) {
-    if count > words.len() {
-        return (255, 0);
-    }
-    code(read(&words[..count]))
+fn front(words: &[u32], count: usize) -> Result<&[u32], Fail> {
+    check(count <= words.len())?;
+    Ok(&words[..count])
 }
 
 // The code of a record of one stream, one lane and so many turns, all the first stream's but for the last, which is `last`.
-fn code_of_turns(turns: u16, last: u32) -> (u8, u16) {
-    if turns > 8000 {
-        return (255, 0);
-    }
+fn code_of_turns(turns: u16, last: u32) -> Result<(u8, u16), Fail> {
+    check(turns <= 8000)?;
     let mut words = [0x30000000; 8192];
     let end = turns as usize + 1;
     words[0] = 0x10000101;
     words[turns as usize] = last;
     words[end] = 0x50000001 + turns as u32;
-    code_of_front(&words, end + 1)
+    Ok(code(read(front(&words, end + 1)?)))
 }
 
 #[test]
 fn turns_are_counted() -> Result<(), Fail> {
-    check_eq(code_of_turns(7600, 0x30000001), (0, 0))?;
-    check_eq(code_of_turns(7600, 0x30000002), (3, 7600))?;
-    check_eq(code_of_turns(7601, 0x30000001), (4, 7601))?;
-    check_eq(code_of_turns(7601, 0x30000002), (3, 7601))?;
-    check_eq(code_of_turns(7601, 0x60000001), (2, 7601))
+    check_eq(code_of_turns(7600, 0x30000001)?, (0, 0))?;
+    check_eq(code_of_turns(7600, 0x30000002)?, (3, 7600))?;
+    check_eq(code_of_turns(7601, 0x30000001)?, (4, 7601))?;
+    check_eq(code_of_turns(7601, 0x30000002)?, (3, 7601))?;
+    check_eq(code_of_turns(7601, 0x60000001)?, (2, 7601))
+}
+
+// The longest record, of 8,130 words, and turns after it: everybody ranks the whole other side in the order of its numbers,
+// there are 7,600 turns, and stream k has lane k.
+fn longest() -> [u32; 8192] {
+    let mut words = [0x3000001F; 8192];
+    words[0] = 0x10001010;
+    for owner in 0..32 {
+        for place in 0..16 {
+            words[1 + 16 * owner + place] = 0x20000000 + 0x10000 * owner as u32 + 0x101 * place as u32;
+        }
+    }
+    for stream in 0..16 {
+        words[8113 + stream] = 0x40000000 + 0x101 * stream as u32;
+    }
+    words[8129] = 0x50000000 + 8129;
+    words
+}
+
+#[test]
+fn longest_record_is_read() -> Result<(), Fail> {
+    let words = longest();
+    let parts = read(front(&words, 8130)?)?;
+    check_eq((parts.choices.at, parts.choices.words.len()), (1, 512))?;
+    check_eq((parts.turns.at, parts.turns.words.len()), (513, 7600))?;
+    check_eq((parts.pairs.at, parts.pairs.words.len()), (8113, 16))
 }
