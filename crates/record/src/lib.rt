@@ -8,3 +8,6 @@ mod scan;
 mod order;
 mod part;
 pub mod read;
+
+#[cfg(test)]
+mod tests;
