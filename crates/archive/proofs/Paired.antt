@@ -29,10 +29,12 @@ lane-push (p ∷ ps) q i a = ⊎-elim here (there (lane-push ps q i (a .1))) (ca
   where
     low′ : p .0 < q .0
     low′ = a .0
+
     here : p .0 ≡ i → laneOf ((p ∷ ps) ++ q ∷ []) i ≡ cond (eqb (q .0) i) (q .1) (laneOf (p ∷ ps) i)
     here e =
         cond-true (eqb (p .0) i) (p .1) (laneOf (ps ++ q ∷ []) i) (eq-eqb (p .0) i e)
         ∙ sym (cond-false (eqb (q .0) i) (q .1) (laneOf (p ∷ ps) i) (ne-eqb (q .0) i (λ s. absurd (omega (arith, low′)))) ∙ cond-true (eqb (p .0) i) (p .1) (laneOf ps i) (eq-eqb (p .0) i e))
+
     there : laneOf (ps ++ q ∷ []) i ≡ cond (eqb (q .0) i) (q .1) (laneOf ps i) → (p .0 ≡ i → ⊥) → laneOf ((p ∷ ps) ++ q ∷ []) i ≡ cond (eqb (q .0) i) (q .1) (laneOf (p ∷ ps) i)
     there known n =
         cond-false (eqb (p .0) i) (p .1) (laneOf (ps ++ q ∷ []) i) (ne-eqb (p .0) i n)
@@ -43,9 +45,10 @@ lane-push (p ∷ ps) q i a = ⊎-elim here (there (lane-push ps q i (a .1))) (ca
 pub streams-below : (ws : List ℕ) (k : ℕ) → k < length ws → Rising (map middle ws) → All (λ p. p .0 < middle (getD ws k 0)) (map pairOf (take k ws))
 streams-below [] k h r = absurd (omega arith)
 streams-below (w ∷ ws) zero h r = tt
-streams-below (w ∷ ws) (suc k) h r =
-    ( subst (λ x. middle w < x) (getD-map middle ws k 0 0 (omega arith)) (all-getD (λ x. middle w < x) (map middle ws) k 0 (subst (λ n. k < n) (sym (length-map ws middle)) (omega arith)) (r .0)),
-      streams-below ws k (omega arith) (r .1) )
+streams-below (w ∷ ws) (suc k) h r = (
+  subst (λ x. middle w < x) (getD-map middle ws k 0 0 (omega arith)) (all-getD (λ x. middle w < x) (map middle ws) k 0 (subst (λ n. k < n) (sym (length-map ws middle)) (omega arith)) (r .0)),
+  streams-below ws k (omega arith) (r .1),
+)
 
 -- a table of lanes when one more pair word comes
 pub one-paired : (lanes ws : List ℕ) (k : ℕ) → k < length ws → length lanes ≡ 16 → Rising (map middle ws) → middle (getD ws k 0) < 16
@@ -58,11 +61,13 @@ one-paired lanes ws k h size rise few known i hi =
   where
     w : ℕ
     w = getD ws k 0
+
     same : middle w ≡ i → getD (set lanes (middle w) (low w)) i 255 ≡ cond (eqb (middle w) i) (low w) (laneOf (map pairOf (take k ws)) i)
     same e =
         ap (λ x. getD (set lanes (middle w) (low w)) x 255) (sym e)
         ∙ getD-set-same lanes (middle w) (low w) 255 (omega arith)
         ∙ sym (cond-true (eqb (middle w) i) (low w) (laneOf (map pairOf (take k ws)) i) (eq-eqb (middle w) i e))
+
     other : (middle w ≡ i → ⊥) → getD (set lanes (middle w) (low w)) i 255 ≡ cond (eqb (middle w) i) (low w) (laneOf (map pairOf (take k ws)) i)
     other n =
         let apart : i ≢ middle w = λ s. n (sym s) in
@@ -90,14 +95,19 @@ lane-once (q ∷ ps) i j d n e = ⊎-elim (λ a. ⊎-elim (λ b. sym a ∙ b) (f
   where
     at : (k : ℕ) → q .0 ≡ k → laneOf (q ∷ ps) k ≡ q .1
     at k s = cond-true (eqb (q .0) k) (q .1) (laneOf ps k) (eq-eqb (q .0) k s)
+
     past : (k : ℕ) → (q .0 ≡ k → ⊥) → laneOf (q ∷ ps) k ≡ laneOf ps k
     past k s = cond-false (eqb (q .0) k) (q .1) (laneOf ps k) (ne-eqb (q .0) k s)
+
     twice : (k : ℕ) → laneOf ps k ≡ q .1 → (_≡_ {A = ℕ} (q .1) 255 → ⊥) → ⊥
     twice k s t = both-ways (among (q .1) (map (λ r. r .1) ps)) (d .0) (ap (λ l. among l (map (λ r. r .1) ps)) (sym s) ∙ lane-among ps k (λ z. t (sym s ∙ z)))
+
     first : q .0 ≡ i → (q .0 ≡ j → ⊥) → i ≡ j
     first a b = absurd (twice j (sym (past j b) ∙ sym e ∙ at i a) (λ z. n (at i a ∙ z)))
+
     second : (q .0 ≡ i → ⊥) → q .0 ≡ j → i ≡ j
     second a b = absurd (twice i (sym (past i a) ∙ e ∙ at j b) (λ z. n (e ∙ at j b ∙ z)))
+
     neither : ((_≡_ {A = ℕ} (laneOf ps i) 255 → ⊥) → laneOf ps i ≡ laneOf ps j → i ≡ j) → (q .0 ≡ i → ⊥) → (q .0 ≡ j → ⊥) → i ≡ j
     neither known a b = known (λ z. n (past i a ∙ z)) (sym (past i a) ∙ e ∙ past j b)
 
@@ -106,21 +116,22 @@ pairing-at c i h = getD-map-counting (laneOf (c .pairs)) 0 (c .streams) i i 0 h 
 
 pub pairing-lawful : (c : Content) (m : Market) → Lawful c → m .streams ≡ c .streams → m .lanes ≡ c .lanes → LawfulPairing m (pairingOf c)
 pairing-lawful c m law es eg = record {
-    count = length-map-counting (laneOf (c .pairs)) 0 (c .streams) ∙ sym es;
-    named = λ i h. let k : i < c .streams = omega arith in
+  count = length-map-counting (laneOf (c .pairs)) 0 (c .streams) ∙ sym es;
+  named = λ i h. let k : i < c .streams = omega arith in
       subst (λ l. (l < m .lanes) ⊎ (_≡_ {A = ℕ} l 255)) (sym (pairing-at c i k)) (subst (λ g. (laneOf (c .pairs) i < g) ⊎ (_≡_ {A = ℕ} (laneOf (c .pairs) i) 255)) (sym eg) (lane-named (c .lanes) (c .pairs) i (law .pairs-of-lanes)));
-    once = λ i j hi hj l e.
+  once = λ i j hi hj l e.
       let ki : i < c .streams = omega arith in
       let kj : j < c .streams = omega arith in
       let small : laneOf (c .pairs) i < m .lanes = subst (λ x. x < m .lanes) (pairing-at c i ki) l in
-      lane-once (c .pairs) i j (law .no-lane-twice) (λ z. absurd (omega (arith, law .few-lanes))) (sym (pairing-at c i ki) ∙ e ∙ pairing-at c j kj) }
+      lane-once (c .pairs) i j (law .no-lane-twice) (λ z. absurd (omega (arith, law .few-lanes))) (sym (pairing-at c i ki) ∙ e ∙ pairing-at c j kj);
+}
 
 -- a table of a content's lanes, cut to its streams, is its pairing
 pub pairing-cut : (c : Content) (lanes : List ℕ) (n : ℕ) → n ≡ c .streams → n ≤ 16 → length lanes ≡ 16 → ((i : ℕ) → i < 16 → getD lanes i 255 ≡ laneOf (c .pairs) i) → take n lanes ≡ pairingOf c
 pairing-cut c lanes n e few size known =
     ext-getD 255 (take n lanes) (pairingOf c) (length-take-le n lanes (omega arith) ∙ e ∙ sym (length-map-counting (laneOf (c .pairs)) 0 (c .streams)))
     (λ i h. let k : i < n = subst (λ x. i < x) (length-take-le n lanes (omega arith)) h in
-      getD-take n lanes i 255 k ∙ known i (omega arith) ∙ sym (getD-map-counting (laneOf (c .pairs)) 0 (c .streams) i i 255 (omega arith) (omega arith)))
+    getD-take n lanes i 255 k ∙ known i (omega arith) ∙ sym (getD-map-counting (laneOf (c .pairs)) 0 (c .streams) i i 255 (omega arith) (omega arith)))
 
 -- the streams of a content's pair words
 pub pair-streams : (ps : List (ℕ × ℕ)) → BytePairs ps → map middle (map pairWord ps) ≡ map (λ q. q .0) ps

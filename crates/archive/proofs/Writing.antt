@@ -18,13 +18,15 @@ wrote-byte o i b h = record { place = refl; front = take-more-set o i b h; rest 
 
 pub wrote-both : (o p q a b : List ℕ) (i r s : ℕ) → Wrote o i a p r → Wrote p r b q s → Wrote o i (a ++ b) q s
 wrote-both o p q a b i r s x y = record {
-    place = y .place ∙ omega (arith, x .place, length-append a b);
-    front = y .front ∙ ap (λ l. l ++ b) (x .front) ∙ append-assoc (take i o) a b;
-    rest = y .rest ∙ further;
-    size = y .size ∙ x .size }
+  place = y .place ∙ omega (arith, x .place, length-append a b);
+  front = y .front ∙ ap (λ l. l ++ b) (x .front) ∙ append-assoc (take i o) a b;
+  rest = y .rest ∙ further;
+  size = y .size ∙ x .size;
+}
   where
     e : s ≡ r + length b
     e = y .place
+
     further : drop s p ≡ drop s o
     further = ap (λ n. drop n p) e ∙ sym (drop-drop (length b) r p) ∙ ap (drop (length b)) (x .rest) ∙ drop-drop (length b) r o ∙ ap (λ n. drop n o) (sym e)
 
@@ -54,6 +56,6 @@ lines-push k b (x ∷ xs) =
 pub wrote-pair : (o p q lanes : List ℕ) (i at next : ℕ) → i < length lanes → Wrote o 0 (pairLines 0 (take i lanes)) p at → Wrote p at (pairLine i (getD lanes i 0)) q next → Wrote o 0 (pairLines 0 (take (i + 1) lanes)) q next
 wrote-pair o p q lanes i at next h w v =
     let e : pairLines 0 (take i lanes) ++ pairLine i (getD lanes i 0) ≡ pairLines 0 (take (i + 1) lanes) =
-          sym (ap (pairLines 0) (take-more lanes i 0 h) ∙ lines-push 0 (getD lanes i 0) (take i lanes) ∙ ap (λ k. pairLines 0 (take i lanes) ++ pairLine k (getD lanes i 0)) (zero-add (length (take i lanes)) ∙ length-take-le i lanes (omega arith))) in
+    sym (ap (pairLines 0) (take-more lanes i 0 h) ∙ lines-push 0 (getD lanes i 0) (take i lanes) ∙ ap (λ k. pairLines 0 (take i lanes) ++ pairLine k (getD lanes i 0)) (zero-add (length (take i lanes)) ∙ length-take-le i lanes (omega arith))) in
     wrote-as o q (pairLines 0 (take i lanes) ++ pairLine i (getD lanes i 0)) (pairLines 0 (take (i + 1) lanes)) 0 next next e refl
     (wrote-both o p q (pairLines 0 (take i lanes)) (pairLine i (getD lanes i 0)) 0 at next w v)

@@ -45,5 +45,9 @@ pub fn judge(words: &[u32]) -> Result<Judged, Refusal>
     let streams = parts.streams;
     let lanes = lanes_of(parts.pairs.words);
     let finding = find(&listing, &lanes[0..streams as usize])?;
-    Ok(Judged { streams, lanes, finding })
+    Ok(Judged {
+        streams,
+        lanes,
+        finding,
+    })
 }

@@ -56,6 +56,7 @@ fn finder_on_the_square_board() -> Result<(), Fail> {
 
 // The ranks of a lane or a stream 0 to 3 by stream or lane 0 to 3, 9 for none.
 const BY_STREAM: [[u16; 3]; 3] = [[0, 1, 9], [1, 0, 9], [9, 9, 9]];
+
 const BY_LANE: [[u16; 3]; 3] = [[1, 0, 9], [0, 1, 9], [9, 9, 9]];
 
 #[test]

@@ -20,7 +20,11 @@ fn main(rt: LibcRuntime) -> Result<(), AnyError> {
         Ok(ended) => {
             let length = ended.length;
             rt.stdout().write_all(&text[0..length])?;
-            if ended.well { Ok(()) } else { Err("not well".into()) }
+            if ended.well {
+                Ok(())
+            } else {
+                Err("not well".into())
+            }
         }
         Err(_) => Err("no room for the text".into()),
     }

@@ -54,11 +54,17 @@ pub fn tell(bytes: &[u8], text: &mut [u8]) -> Result<Ended, Refusal>
     match judge_bytes(bytes) {
         Ok(judged) => {
             let length = judged_text(&judged, text)?;
-            Ok(Ended { length, well: is_stable(judged.finding()) })
+            Ok(Ended {
+                length,
+                well: is_stable(judged.finding()),
+            })
         }
         Err(refusal) => {
             let length = refusal_text(refusal, text)?;
-            Ok(Ended { length, well: false })
+            Ok(Ended {
+                length,
+                well: false,
+            })
         }
     }
 }

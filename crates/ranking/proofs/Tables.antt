@@ -52,16 +52,22 @@ one-entered places ws w size fit known p q hp hq = ⊎-elim (λ e. ⊎-elim (λ 
   where
     o : ℕ
     o = high w
+
     y : ℕ
     y = low w
+
     after : List ℕ
     after = set places (16 * high w + low w) (middle w)
+
     xs : List ℕ
     xs = rankedBy ws (high w)
+
     absent : placeIn (low w) (rankedBy ws (high w)) ≡ None
     absent = not-among (low w) (rankedBy ws (high w)) (fit .new)
+
     kept : 16 * p + q ≢ 16 * high w + low w → placeAt (set places (16 * high w + low w) (middle w)) p q ≡ placeAt places p q
     kept n = ap (λ v. cond (ltb v 255) (Some v) None) (getD-set-other places (16 * high w + low w) (16 * p + q) (middle w) 255 n)
+
     same : p ≡ high w → q ≡ low w → placeAt (set places (16 * high w + low w) (middle w)) p q ≡ placeIn q (rankedBy (ws ++ w ∷ []) p)
     same e f =
         let at : 16 * p + q ≡ 16 * high w + low w = omega arith in
@@ -74,12 +80,14 @@ one-entered places ws w size fit known p q hp hq = ⊎-elim (λ e. ⊎-elim (λ 
         ∙ ap (placeIn (low w)) (sym (rankedBy-push ws w (high w) (fit .of-kind) refl))
         ∙ ap (λ x. placeIn x (rankedBy (ws ++ w ∷ []) (high w))) (sym f)
         ∙ ap (λ x. placeIn q (rankedBy (ws ++ w ∷ []) x)) (sym e)
+
     another-column : p ≡ high w → (q ≡ low w → ⊥) → placeAt (set places (16 * high w + low w) (middle w)) p q ≡ placeIn q (rankedBy (ws ++ w ∷ []) p)
     another-column e n =
         let apart : 16 * p + q ≢ 16 * high w + low w = λ s. n (omega arith) in
         kept apart
         ∙ known p q hp hq
         ∙ sym (ap (placeIn q) (rankedBy-push ws w p (fit .of-kind) (sym e)) ∙ place-push-other q (low w) (rankedBy ws p) (ne-eqb q (low w) n))
+
     another-row : (p ≡ high w → ⊥) → placeAt (set places (16 * high w + low w) (middle w)) p q ≡ placeIn q (rankedBy (ws ++ w ∷ []) p)
     another-row n =
         let c = fit .column in
@@ -92,12 +100,14 @@ entered-distinct places ws size known t h = ⊎-elim inside outside (cases-lt (t
   where
     given : (q : ℕ) → q < 16 → t .0 < 32 → entry places (t .0) q < 255 → placeIn q (rankedBy ws (t .0)) ≡ Some (entry places (t .0) q)
     given q hq hp l = sym (known (t .0) q hp hq) ∙ cond-true (ltb (entry places (t .0) q) 255) (Some (entry places (t .0) q)) None (lt-ltb (entry places (t .0) q) 255 l)
+
     inside : t .0 < 32 → t .1 ≡ t .2
     inside hp =
         let l : entry places (t .0) (t .2) < 255 = subst (λ v. v < 255) (h .3) (h .2) in
         let a = place-at (t .1) (rankedBy ws (t .0)) (entry places (t .0) (t .1)) (given (t .1) (h .0) hp (h .2)) in
         let b = place-at (t .2) (rankedBy ws (t .0)) (entry places (t .0) (t .2)) (given (t .2) (h .1) hp l) in
         sym (a .1) ∙ ap (λ k. getD (rankedBy ws (t .0)) k 0) (h .3) ∙ b .1
+
     outside : 32 ≤ t .0 → t .1 ≡ t .2
     outside hp = absurd (let e : _≡_ {A = ℕ} (entry places (t .0) (t .1)) 255 = getD-past places (16 * t .0 + t .1) 255 (omega arith) in let l = h .2 in omega arith)
 
@@ -120,6 +130,7 @@ module _ (c : Content) (law : Lawful c) (ws places : List ℕ) (words : ws ≡ c
     where
       side : i < c .streams → facing (c .streams) (c .lanes) i ≡ c .lanes
       side h = cond-true (ltb i (c .streams)) (c .lanes) (cond (ltb i (c .streams + c .lanes)) (c .streams) 0) (lt-ltb i (c .streams) h)
+
       inside : i < c .streams → cond (ltb i (c .streams)) (cond (ltb j (c .lanes)) (placeAt places i j) None) None ≡ cond (ltb i (c .streams)) (placeIn j (c .ranked i)) None
       inside h = ap (cond-of (ltb i (c .streams))) (⊎-elim
           (λ k. cond-true (ltb j (c .lanes)) (placeAt places i j) None (lt-ltb j (c .lanes) k) ∙ place i j (omega (arith, law .few-lanes)) (omega (arith, law .few-lanes)))
@@ -134,10 +145,12 @@ module _ (c : Content) (law : Lawful c) (ws places : List ℕ) (words : ws ≡ c
     where
       nobody : c .lanes ≤ j → facing (c .streams) (c .lanes) (c .streams + j) ≡ 0
       nobody h = cond-false (ltb (c .streams + j) (c .streams)) (c .lanes) (cond (ltb (c .streams + j) (c .streams + c .lanes)) (c .streams) 0) (le-ltb (c .streams + j) (c .streams) (omega arith))
-                 ∙ cond-false (ltb (c .streams + j) (c .streams + c .lanes)) (c .streams) 0 (le-ltb (c .streams + j) (c .streams + c .lanes) (omega arith))
+          ∙ cond-false (ltb (c .streams + j) (c .streams + c .lanes)) (c .streams) 0 (le-ltb (c .streams + j) (c .streams + c .lanes) (omega arith))
+
       side : j < c .lanes → facing (c .streams) (c .lanes) (c .streams + j) ≡ c .streams
       side h = cond-false (ltb (c .streams + j) (c .streams)) (c .lanes) (cond (ltb (c .streams + j) (c .streams + c .lanes)) (c .streams) 0) (le-ltb (c .streams + j) (c .streams) (omega arith))
-               ∙ cond-true (ltb (c .streams + j) (c .streams + c .lanes)) (c .streams) 0 (lt-ltb (c .streams + j) (c .streams + c .lanes) (omega arith))
+          ∙ cond-true (ltb (c .streams + j) (c .streams + c .lanes)) (c .streams) 0 (lt-ltb (c .streams + j) (c .streams + c .lanes) (omega arith))
+
       inside : j < c .lanes → cond (ltb j (c .lanes)) (cond (ltb i (c .streams)) (placeAt places (c .streams + j) i) None) None ≡ placeIn i (c .ranked (c .streams + j))
       inside h = cond-true (ltb j (c .lanes)) (cond (ltb i (c .streams)) (placeAt places (c .streams + j) i) None) None (lt-ltb j (c .lanes) h) ∙ ⊎-elim
           (λ k. cond-true (ltb i (c .streams)) (placeAt places (c .streams + j) i) None (lt-ltb i (c .streams) k) ∙ place (c .streams + j) i (omega arith) (omega (arith, law .few-streams)))
@@ -153,7 +166,8 @@ enterable c law ws words k h =
       column = choice-member c law k inside;
       few = choice-few c law k inside;
       place = choice-place c law k inside;
-      new = choice-new c law k inside })
+      new = choice-new c law k inside;
+    })
   where
     inside : k < length (choiceWords (c .ranked) (parties c))
     inside = subst (λ l. k < length l) words h
@@ -164,10 +178,11 @@ table-content c law ws places s g words known es eg =
     ap (λ x. tableMeaning x g places) es
     ∙ ap (λ x. tableMeaning (c .streams) x places) eg
     ∙ (λ k. record {
-        streams = c .streams;
-        lanes = c .lanes;
-        byStream = λ i j. by-stream c law ws places words known i j k;
-        byLane = λ j i. by-lane c law ws places words known j i k })
+      streams = c .streams;
+      lanes = c .lanes;
+      byStream = λ i j. by-stream c law ws places words known i j k;
+      byLane = λ j i. by-lane c law ws places words known j i k;
+    })
 
 -- what a rank of a table tells
 pub rank-told : (places : List ℕ) (n m i j p q k : ℕ) → cond (ltb i n) (cond (ltb j m) (placeAt places p q) None) None ≡ Some k → (i < n) × (j < m) × (entry places p q ≡ k) × (k < 255)

@@ -17,10 +17,11 @@ use Rattle.ranking.specs.declared.table.Listing.{Listing}
 -- what a table of places means, given the sizes: streams have the first rows, and lane j has row s + j
 abbrev pub tableMeaning : (streams lanes : ℕ) → List ℕ → Meaning
 tableMeaning s g places = record {
-    streams = s;
-    lanes = g;
-    byStream = λ i j. cond (ltb i s) (cond (ltb j g) (placeAt places i j) None) None;
-    byLane = λ j i. cond (ltb j g) (cond (ltb i s) (placeAt places (s + j) i) None) None }
+  streams = s;
+  lanes = g;
+  byStream = λ i j. cond (ltb i s) (cond (ltb j g) (placeAt places i j) None) None;
+  byLane = λ j i. cond (ltb j g) (cond (ltb i s) (placeAt places (s + j) i) None) None;
+}
 
 -- what a listing means
 abbrev pub listed : Listing → Meaning
@@ -33,10 +34,11 @@ unlisted = record { streams = 1; lanes = 1; byStream = λ i j. None; byLane = λ
 -- what a content's choices mean: a rank is the place among the parties that the ranker names, and lane j is party s + j
 abbrev pub contentMeaning : Content → Meaning
 contentMeaning c = record {
-    streams = c .streams;
-    lanes = c .lanes;
-    byStream = λ i j. cond (ltb i (c .streams)) (placeIn j (c .ranked i)) None;
-    byLane = λ j i. placeIn i (c .ranked (c .streams + j)) }
+  streams = c .streams;
+  lanes = c .lanes;
+  byStream = λ i j. cond (ltb i (c .streams)) (placeIn j (c .ranked i)) None;
+  byLane = λ j i. placeIn i (c .ranked (c .streams + j));
+}
 
 -- what refuses to fill a listing: what refuses the record, then that it was filled before
 abbrev pub fillFault : List ℕ → Bool → Option (ℕ × ℕ)

@@ -44,7 +44,12 @@ impl Listing {
         ensures ranks_nobody { λ r. ⌜ listed r ≡ unlisted ⌝ }
         ensures not_filled { λ r. ⌜ r .filled ≡ false ⌝ }
     {
-        Listing { streams: 1, lanes: 1, places: [NO_PLACE; TABLE], filled: false }
+        Listing {
+            streams: 1,
+            lanes: 1,
+            places: [NO_PLACE; TABLE],
+            filled: false,
+        }
     }
 
     /// Fills a new listing from the words of a record, and answers the record's parts.
@@ -60,7 +65,12 @@ impl Listing {
             return Err(Refusal::Filled);
         }
         let places = places_of(parts.choices.words);
-        *self = Listing { streams: parts.streams, lanes: parts.lanes, places, filled: true };
+        *self = Listing {
+            streams: parts.streams,
+            lanes: parts.lanes,
+            places,
+            filled: true,
+        };
         Ok(parts)
     }
 }
@@ -71,7 +81,11 @@ fn place_in(places: &[u8; TABLE], row: u8, ranked: u8) -> Option<u16>
     ensures is_the_place { λ r. ⌜ r ≡ placeAt (now (places .entry)) row ranked ⌝ }
 {
     let place = places[16 * row as usize + ranked as usize];
-    if place < NO_PLACE { Some(place as u16) } else { None }
+    if place < NO_PLACE {
+        Some(place as u16)
+    } else {
+        None
+    }
 }
 
 pub impl Ranking for Listing as ListingRanking {

@@ -35,6 +35,7 @@ has-one k j = ⊎-elim same (⊎-elim below above) (cases-order j k)
   where
     same : j ≡ k → has (2 ^ k) j ≡ eqb j k
     same e = let d : 2 ^ k / 2 ^ j ≡ 1 = rw e (div-self (pow-pos k)) in ap (λ x. eqb (x % 2) 1) d ∙ sym (eq-eqb j k e)
+
     below : j < k → has (2 ^ k) j ≡ eqb j k
     below l =
         let d = k - j - 1 in
@@ -43,6 +44,7 @@ has-one k j = ⊎-elim same (⊎-elim below above) (cases-order j k)
         let r : 2 ^ k / 2 ^ j ≡ 2 ^ suc d = ap (λ x. x / 2 ^ j) q ∙ shl-shr (2 ^ suc d) j in
         let s : 2 ^ suc d % 2 ≡ 0 = ap (λ x. x % 2) (pow-suc 2 d) ∙ mul-mod-left (2 ^ d) 2 in
         ap (λ x. eqb x 1) (ap (λ x. x % 2) r ∙ s) ∙ sym (ne-eqb j k (omega arith))
+
     above : k < j → has (2 ^ k) j ≡ eqb j k
     above l = ap (λ x. eqb (x % 2) 1) (div-eq-of-lt (pow-below k j l)) ∙ sym (ne-eqb j k (omega arith))
 

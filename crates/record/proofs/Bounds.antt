@@ -55,14 +55,15 @@ allowed-last (v ∷ vs) w h = refl
 
 pub head-read : (ws : List ℕ) → 2 ≤ length ws → kind (getD ws 0 0) ≡ 1 → headWithin (getD ws 0 0) ≡ true → ReadTo ws 2 1
 head-read ws h e w = record {
-    inside = omega arith;
-    some = omega arith;
-    clean = earliest-more (faultAt ws) 0 refl ∙ head-fault ws e ∙ ap (λ b. refuseIf (not b) (3, 0)) w;
-    below = ap (every (λ v. ltb (kind v) 2)) (take-more ws 0 0 (omega arith)) ∙ and-from _ true (lt-ltb (kind (getD ws 0 0)) 2 (omega arith)) refl;
-    ahead = λ l s.
+  inside = omega arith;
+  some = omega arith;
+  clean = earliest-more (faultAt ws) 0 refl ∙ head-fault ws e ∙ ap (λ b. refuseIf (not b) (3, 0)) w;
+  below = ap (every (λ v. ltb (kind v) 2)) (take-more ws 0 0 (omega arith)) ∙ and-from _ true (lt-ltb (kind (getD ws 0 0)) 2 (omega arith)) refl;
+  ahead = λ l s.
       let v = getD ws 1 0 in
       let p = and-parts (leb 2 (kind v)) (leb (kind v) 4 && every (λ u. leb (kind u) (kind v)) (take 1 ws)) (sym (allowed-middle (take 1 ws) v (rw (front-length ws 1 (omega arith)) (omega arith))) ∙ s) in
-      leb-true 2 (kind v) (p .0) }
+      leb-true 2 (kind v) (p .0);
+}
 
 -- the sizes that a head gives
 pub head-sizes : (w : ℕ) → headWithin w ≡ true → (1 ≤ middle w) × (middle w ≤ 16) × (1 ≤ low w) × (low w ≤ 16)

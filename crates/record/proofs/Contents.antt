@@ -104,9 +104,17 @@ module _ (c : Content) (law : Lawful c) where
   -- a content's record has at most 8,130 words
   pub few-words : length (bodyWords c) ≤ 8129
   few-words =
-      omega (arith, few-choices (parties c), few-parties, law .few-turns, few-pairs,
+      omega (
+        arith,
+        few-choices (parties c),
+        few-parties,
+        law .few-turns,
+        few-pairs,
         length-append (choiceWords (c .ranked) (parties c)) (map turnWord (c .turns) ++ map pairWord (c .pairs)),
-        length-append (map turnWord (c .turns)) (map pairWord (c .pairs)), length-map (c .turns) turnWord, length-map (c .pairs) pairWord)
+        length-append (map turnWord (c .turns)) (map pairWord (c .pairs)),
+        length-map (c .turns) turnWord,
+        length-map (c .pairs) pairWord,
+      )
 
   kh : kind (headWord (c .streams) (c .lanes)) ≡ 1
   kh = kind-head (c .streams) (c .lanes) (omega (arith, law .few-streams)) (omega (arith, law .few-lanes))
@@ -133,8 +141,10 @@ module _ (c : Content) (law : Lawful c) where
     where
       inside : p < parties c → map low (kept-by (λ w. eqb (high w) p) (choiceWords (c .ranked) (parties c))) ≡ c .ranked p
       inside h = choice-lows (c .ranked) ranked-bytes few256 (parties c) p (omega (arith, few-parties)) h
+
       nobody : parties c ≤ p → facing (c .streams) (c .lanes) p ≡ 0
       nobody h = grind (arith, tells)
+
       outside : parties c ≤ p → map low (kept-by (λ w. eqb (high w) p) (choiceWords (c .ranked) (parties c))) ≡ c .ranked p
       outside h =
           ap (map low) (kept-none (λ w. ltb (high w) (parties c)) (λ w. eqb (high w) p) (λ w t. ne-eqb (high w) p (λ s. absurd (omega (arith, ltb-true (high w) (parties c) t)))) (choiceWords (c .ranked) (parties c)) (choice-owners (c .ranked) ranked-bytes few256 (parties c) (omega (arith, few-parties))))
@@ -147,14 +157,16 @@ told ws = record { streams = middle (getD ws 0 0); lanes = low (getD ws 0 0); ra
 pub content-told : (c : Content) → Lawful c → told (recordWords c) ≡ c
 unfolding told
 content-told c law = λ i. record {
-    streams = middle-head (c .streams) (c .lanes) (omega (arith, law .few-streams)) (omega (arith, law .few-lanes)) i;
-    lanes = low-head (c .streams) (c .lanes) (omega (arith, law .few-streams)) (omega (arith, law .few-lanes)) i;
-    ranked = λ p. content-ranked c law p i;
-    turns = turns-back i;
-    pairs = pairs-back i }
+  streams = middle-head (c .streams) (c .lanes) (omega (arith, law .few-streams)) (omega (arith, law .few-lanes)) i;
+  lanes = low-head (c .streams) (c .lanes) (omega (arith, law .few-streams)) (omega (arith, law .few-lanes)) i;
+  ranked = λ p. content-ranked c law p i;
+  turns = turns-back i;
+  pairs = pairs-back i;
+}
   where
     turns-back : turnsIn (recordWords c) ≡ c .turns
     turns-back = ap (map low) (content-turns c law) ∙ turn-lows (c .turns) (turn-bytes c law)
+
     pairs-back : pairsIn (recordWords c) ≡ c .pairs
     pairs-back = ap (map pairOf) (content-pairs c law) ∙ pair-values (c .pairs) (pair-bytes c law)
 

@@ -53,8 +53,8 @@ module _ (ranked : ℕ → List ℕ) (bytes : (p : ℕ) → Bytes (ranked p)) (f
   choice-owners (suc n) h =
       every-append (λ w. ltb (high w) (suc n)) (choiceWords ranked n) (ownerWords n 0 (ranked n))
       ∙ and-from _ _
-        (every-weaker (λ w. ltb (high w) n) (λ w. ltb (high w) (suc n)) (λ w t. lt-ltb (high w) (suc n) (omega (arith, ltb-true (high w) n t))) (choiceWords ranked n) (choice-owners n (omega arith)))
-        (every-weaker (λ w. eqb (high w) n) (λ w. ltb (high w) (suc n)) (λ w t. lt-ltb (high w) (suc n) (omega (arith, eqb-true (high w) n t))) (ownerWords n 0 (ranked n)) (owner-owners n 0 (ranked n) h (omega (arith, few n)) (bytes n)))
+      (every-weaker (λ w. ltb (high w) n) (λ w. ltb (high w) (suc n)) (λ w t. lt-ltb (high w) (suc n) (omega (arith, ltb-true (high w) n t))) (choiceWords ranked n) (choice-owners n (omega arith)))
+      (every-weaker (λ w. eqb (high w) n) (λ w. ltb (high w) (suc n)) (λ w t. lt-ltb (high w) (suc n) (omega (arith, eqb-true (high w) n t))) (ownerWords n 0 (ranked n)) (owner-owners n 0 (ranked n) h (omega (arith, few n)) (bytes n)))
 
   -- what an owner names in them is what it ranks
   pub choice-lows : (n p : ℕ) → n ≤ 256 → p < n → map low (kept-by (λ w. eqb (high w) p) (choiceWords ranked n)) ≡ ranked p
@@ -63,20 +63,22 @@ module _ (ranked : ℕ → List ℕ) (bytes : (p : ℕ) → Bytes (ranked p)) (f
     where
       one : every (λ w. eqb (high w) n) (ownerWords n 0 (ranked n)) ≡ true
       one = owner-owners n 0 (ranked n) h (omega (arith, few n)) (bytes n)
+
       same : p ≡ n → map low (kept-by (λ w. eqb (high w) p) (choiceWords ranked n) ++ kept-by (λ w. eqb (high w) p) (ownerWords n 0 (ranked n))) ≡ ranked p
       same e =
           let before : kept-by (λ w. eqb (high w) p) (choiceWords ranked n) ≡ [] =
-                kept-none (λ w. ltb (high w) n) (λ w. eqb (high w) p) (λ w t. ne-eqb (high w) p (λ s. absurd (omega (arith, ltb-true (high w) n t)))) (choiceWords ranked n) (choice-owners n (omega arith)) in
+          kept-none (λ w. ltb (high w) n) (λ w. eqb (high w) p) (λ w t. ne-eqb (high w) p (λ s. absurd (omega (arith, ltb-true (high w) n t)))) (choiceWords ranked n) (choice-owners n (omega arith)) in
           let here : kept-by (λ w. eqb (high w) p) (ownerWords n 0 (ranked n)) ≡ ownerWords n 0 (ranked n) =
-                kept-all (λ w. eqb (high w) n) (λ w. eqb (high w) p) (λ w t. eq-eqb (high w) p (omega (arith, eqb-true (high w) n t))) (ownerWords n 0 (ranked n)) one in
+          kept-all (λ w. eqb (high w) n) (λ w. eqb (high w) p) (λ w t. eq-eqb (high w) p (omega (arith, eqb-true (high w) n t))) (ownerWords n 0 (ranked n)) one in
           ap (λ l₁. map low (l₁ ++ kept-by (λ w. eqb (high w) p) (ownerWords n 0 (ranked n)))) before
           ∙ ap (map low) here
           ∙ owner-lows n 0 (ranked n) h (omega (arith, few n)) (bytes n)
           ∙ ap ranked (sym e)
+
       below : map low (kept-by (λ w. eqb (high w) p) (choiceWords ranked n)) ≡ ranked p → p < n → map low (kept-by (λ w. eqb (high w) p) (choiceWords ranked n) ++ kept-by (λ w. eqb (high w) p) (ownerWords n 0 (ranked n))) ≡ ranked p
       below known g =
           let here : kept-by (λ w. eqb (high w) p) (ownerWords n 0 (ranked n)) ≡ [] =
-                kept-none (λ w. eqb (high w) n) (λ w. eqb (high w) p) (λ w t. ne-eqb (high w) p (λ s. absurd (omega (arith, eqb-true (high w) n t)))) (ownerWords n 0 (ranked n)) one in
+          kept-none (λ w. eqb (high w) n) (λ w. eqb (high w) p) (λ w t. ne-eqb (high w) p (λ s. absurd (omega (arith, eqb-true (high w) n t)))) (ownerWords n 0 (ranked n)) one in
           ap (λ l₁. map low (kept-by (λ w. eqb (high w) p) (choiceWords ranked n) ++ l₁)) here
           ∙ ap (map low) (append-nil (kept-by (λ w. eqb (high w) p) (choiceWords ranked n)))
           ∙ known

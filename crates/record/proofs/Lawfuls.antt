@@ -61,22 +61,25 @@ middle-allowed k w ws e lo hi l u =
 
 module _ (s g w : ℕ) (ws : List ℕ) (l : 1 ≤ length ws) where
   fine-choice : kind w ≡ 2 → UpTo 2 ws → choiceWithin s g w ≡ true → choiceInOrder ws w ≡ true → Fine s g ws w
-  fine-choice e u a b =
-      ( middle-allowed 2 w ws e (omega arith) (omega arith) l u,
-        ap (λ j. byKind j (headWithin w) (choiceWithin s g w) (turnWithin s g w) (pairWithin s g w) true) e ∙ a,
-        ap (λ j. byKind j true (choiceInOrder ws w) (turnInOrder ws) (pairInOrder ws w) (endInOrder ws w)) e ∙ b )
+  fine-choice e u a b = (
+    middle-allowed 2 w ws e (omega arith) (omega arith) l u,
+    ap (λ j. byKind j (headWithin w) (choiceWithin s g w) (turnWithin s g w) (pairWithin s g w) true) e ∙ a,
+    ap (λ j. byKind j true (choiceInOrder ws w) (turnInOrder ws) (pairInOrder ws w) (endInOrder ws w)) e ∙ b,
+  )
 
   fine-turn : kind w ≡ 3 → UpTo 3 ws → turnWithin s g w ≡ true → turnInOrder ws ≡ true → Fine s g ws w
-  fine-turn e u a b =
-      ( middle-allowed 3 w ws e (omega arith) (omega arith) l u,
-        ap (λ j. byKind j (headWithin w) (choiceWithin s g w) (turnWithin s g w) (pairWithin s g w) true) e ∙ a,
-        ap (λ j. byKind j true (choiceInOrder ws w) (turnInOrder ws) (pairInOrder ws w) (endInOrder ws w)) e ∙ b )
+  fine-turn e u a b = (
+    middle-allowed 3 w ws e (omega arith) (omega arith) l u,
+    ap (λ j. byKind j (headWithin w) (choiceWithin s g w) (turnWithin s g w) (pairWithin s g w) true) e ∙ a,
+    ap (λ j. byKind j true (choiceInOrder ws w) (turnInOrder ws) (pairInOrder ws w) (endInOrder ws w)) e ∙ b,
+  )
 
   fine-pair : kind w ≡ 4 → UpTo 4 ws → pairWithin s g w ≡ true → pairInOrder ws w ≡ true → Fine s g ws w
-  fine-pair e u a b =
-      ( middle-allowed 4 w ws e (omega arith) (omega arith) l u,
-        ap (λ j. byKind j (headWithin w) (choiceWithin s g w) (turnWithin s g w) (pairWithin s g w) true) e ∙ a,
-        ap (λ j. byKind j true (choiceInOrder ws w) (turnInOrder ws) (pairInOrder ws w) (endInOrder ws w)) e ∙ b )
+  fine-pair e u a b = (
+    middle-allowed 4 w ws e (omega arith) (omega arith) l u,
+    ap (λ j. byKind j (headWithin w) (choiceWithin s g w) (turnWithin s g w) (pairWithin s g w) true) e ∙ a,
+    ap (λ j. byKind j true (choiceInOrder ws w) (turnInOrder ws) (pairInOrder ws w) (endInOrder ws w)) e ∙ b,
+  )
 
 -- a member in the middle of distinct ones is none of those before it
 distinct-middle : (xs : List ℕ) (y : ℕ) (ys : List ℕ) → Distinct (xs ++ y ∷ ys) → among y xs ≡ false
@@ -85,6 +88,7 @@ distinct-middle (x ∷ xs) y ys d = or-from′ (ne-eqb y x (λ e. absurd (apart 
   where
     or-from′ : eqb y x ≡ false → among y xs ≡ false → (eqb y x || among y xs) ≡ false
     or-from′ a b = ap (λ t. t || among y xs) a ∙ b
+
     apart : (zs : List ℕ) → among x (zs ++ y ∷ ys) ≡ false → y ≡ x → ⊥
     apart [] a e = eqb-false x y (or-parts (eqb x y) (among x ys) a .0) (sym e)
     apart (z ∷ zs) a e = apart zs (or-parts (eqb x z) (among x (zs ++ y ∷ ys)) a .1) e
@@ -94,51 +98,63 @@ owner-clean : (s g o : ℕ) (before xs ys : List ℕ) → s ≤ 16 → g ≤ 16 
     → every (λ v. leb (high v) o) (ofKind 2 before) ≡ true → rankedBy before o ≡ xs → Distinct (xs ++ ys) → All (λ q. q < facing s g o) ys → length xs + length ys ≤ 16
     → Clean s g before (ownerWords o (length xs) ys)
 owner-clean s g o before xs [] fs fg inside l u owners ranks d few n = tt
-owner-clean s g o before xs (y ∷ ys) fs fg inside l u owners ranks d few n =
-    ( fine-choice s g w before l kw u fits order,
-      subst (λ k. Clean s g (before ++ w ∷ []) (ownerWords o k ys)) (length-push xs y)
+owner-clean s g o before xs (y ∷ ys) fs fg inside l u owners ranks d few n = (
+  fine-choice s g w before l kw u fits order,
+  subst (λ k. Clean s g (before ++ w ∷ []) (ownerWords o k ys)) (length-push xs y)
       (owner-clean s g o (before ++ w ∷ []) (xs ++ y ∷ []) ys fs fg inside (long-push before w) (upto-push 2 w before u (omega (arith, kw)))
-       (ap (every (λ v. leb (high v) o)) (ofKind-push 2 before w kw) ∙ every-push (λ v. leb (high v) o) (ofKind 2 before) w ∙ and-from _ _ owners (le-leb (high w) o (omega (arith, hw))))
-       (rankedBy-push before w o kw hw ∙ ap (λ t. t ++ low w ∷ []) ranks ∙ ap (λ x. xs ++ x ∷ []) lw)
-       (subst Distinct (sym (append-assoc xs (y ∷ []) ys)) d)
-       (few .1)
-       (rw (length-push xs y) (omega arith))) )
+      (ap (every (λ v. leb (high v) o)) (ofKind-push 2 before w kw) ∙ every-push (λ v. leb (high v) o) (ofKind 2 before) w ∙ and-from _ _ owners (le-leb (high w) o (omega (arith, hw))))
+      (rankedBy-push before w o kw hw ∙ ap (λ t. t ++ low w ∷ []) ranks ∙ ap (λ x. xs ++ x ∷ []) lw)
+      (subst Distinct (sym (append-assoc xs (y ∷ []) ys)) d)
+      (few .1)
+      (rw (length-push xs y) (omega arith))),
+)
   where
     small : y < 256
     small = let h = few .0 in omega (arith, facing-few s g o fs fg)
+
     w : ℕ
     w = choiceWord o (length xs) y
+
     kw : kind w ≡ 2
     kw = kind-choice o (length xs) y (omega arith) (omega arith) small
+
     hw : high w ≡ o
     hw = high-choice o (length xs) y (omega arith) (omega arith) small
+
     lw : low w ≡ y
     lw = low-choice o (length xs) y (omega arith) (omega arith) small
+
     mw : middle w ≡ length xs
     mw = middle-choice o (length xs) y (omega arith) (omega arith) small
+
     fits : choiceWithin s g w ≡ true
     fits = and-from _ _ (eq-eqb (w / 0x1000000 % 16) 0 (bits-choice o (length xs) y (omega arith) (omega arith) small))
-           (and-from _ _ (lt-ltb (high w) (s + g) (omega (arith, hw))) (ap (λ p. ltb (low w) (facing s g p)) hw ∙ ap (λ q. ltb q (facing s g o)) lw ∙ lt-ltb y (facing s g o) (few .0)))
+        (and-from _ _ (lt-ltb (high w) (s + g) (omega (arith, hw))) (ap (λ p. ltb (low w) (facing s g p)) hw ∙ ap (λ q. ltb q (facing s g o)) lw ∙ lt-ltb y (facing s g o) (few .0)))
+
     order : choiceInOrder before w ≡ true
     order = ap (λ p. every (λ v. leb (high v) p) (ofKind 2 before) && (eqb (middle w) (length (rankedBy before p)) && not (among (low w) (rankedBy before p)))) hw
-            ∙ and-from _ _ owners
-              (ap (λ t. eqb (middle w) (length t) && not (among (low w) t)) ranks
-               ∙ and-from _ _ (eq-eqb (middle w) (length xs) mw) (ap not (ap (λ q. among q xs) lw ∙ distinct-middle xs y ys d)))
+        ∙ and-from _ _ owners
+        (ap (λ t. eqb (middle w) (length t) && not (among (low w) t)) ranks
+        ∙ and-from _ _ (eq-eqb (middle w) (length xs) mw) (ap not (ap (λ q. among q xs) lw ∙ distinct-middle xs y ys d)))
 
 turns-clean : (s g : ℕ) (before ts : List ℕ) → s ≤ 16 → g ≤ 16 → 1 ≤ length before → UpTo 3 before → All (λ p. p < s + g) ts → length (turnsIn before) + length ts ≤ 7600
     → Clean s g before (map turnWord ts)
 turns-clean s g before [] fs fg l u a n = tt
-turns-clean s g before (t ∷ ts) fs fg l u a n =
-    ( fine-turn s g w before l kw u fits (lt-ltb (length (turnsIn before)) 7600 (omega arith)),
-      turns-clean s g (before ++ w ∷ []) ts fs fg (long-push before w) (upto-push 3 w before u (omega (arith, kw))) (a .1)
-      (omega (arith, ap length (turnsIn-push before w kw), length-push (turnsIn before) (low w))) )
+turns-clean s g before (t ∷ ts) fs fg l u a n = (
+  fine-turn s g w before l kw u fits (lt-ltb (length (turnsIn before)) 7600 (omega arith)),
+  turns-clean s g (before ++ w ∷ []) ts fs fg (long-push before w) (upto-push 3 w before u (omega (arith, kw))) (a .1)
+      (omega (arith, ap length (turnsIn-push before w kw), length-push (turnsIn before) (low w))),
+)
   where
     small : t < 256
     small = let h = a .0 in omega arith
+
     w : ℕ
     w = turnWord t
+
     kw : kind w ≡ 3
     kw = kind-turn t small
+
     fits : turnWithin s g w ≡ true
     fits = and-from _ _ (eq-eqb (w / 256 % 0x100000) 0 (bits-turn t small)) (ap (λ p. ltb p (s + g)) (low-turn t small) ∙ lt-ltb t (s + g) (a .0))
 
@@ -155,37 +171,47 @@ pairs-clean : (s g : ℕ) (before : List ℕ) (xs ps : List (ℕ × ℕ)) → s 
     → All (λ q. q .0 < s) ps → All (λ q. q .1 < g) ps → Rising (map (λ q. q .0) (xs ++ ps)) → Distinct (map (λ q. q .1) (xs ++ ps))
     → Clean s g before (map pairWord ps)
 pairs-clean s g before xs [] fs fg l u known a b r d = tt
-pairs-clean s g before xs (y ∷ ps) fs fg l u known a b r d =
-    ( fine-pair s g w before l kw u fits order,
-      pairs-clean s g (before ++ w ∷ []) (xs ++ y ∷ []) ps fs fg (long-push before w) (upto-push 4 w before u (omega (arith, kw)))
+pairs-clean s g before xs (y ∷ ps) fs fg l u known a b r d = (
+  fine-pair s g w before l kw u fits order,
+  pairs-clean s g (before ++ w ∷ []) (xs ++ y ∷ []) ps fs fg (long-push before w) (upto-push 4 w before u (omega (arith, kw)))
       (pairsIn-push before w kw ∙ ap (λ t. t ++ pairOf w ∷ []) known ∙ ap (λ q. xs ++ q ∷ []) back)
       (a .1) (b .1)
       (subst (λ t. Rising (map (λ q. q .0) t)) (sym (append-assoc xs (y ∷ []) ps)) r)
-      (subst (λ t. Distinct (map (λ q. q .1) t)) (sym (append-assoc xs (y ∷ []) ps)) d) )
+      (subst (λ t. Distinct (map (λ q. q .1) t)) (sym (append-assoc xs (y ∷ []) ps)) d),
+)
   where
     small : y .0 < 256
     small = let h = a .0 in omega arith
+
     small′ : y .1 < 256
     small′ = let h = b .0 in omega arith
+
     w : ℕ
     w = pairWord y
+
     kw : kind w ≡ 4
     kw = kind-pair y small small′
+
     mw : middle w ≡ y .0
     mw = middle-pair y small small′
+
     lw : low w ≡ y .1
     lw = low-pair y small small′
+
     back : pairOf w ≡ y
     back = λ i. (mw i, lw i)
+
     fits : pairWithin s g w ≡ true
     fits = and-from _ _ (eq-eqb (w / 65536 % 4096) 0 (bits-pair y small small′))
-           (and-from _ _ (ap (λ p. ltb p s) mw ∙ lt-ltb (y .0) s (a .0)) (ap (λ p. ltb p g) lw ∙ lt-ltb (y .1) g (b .0)))
+        (and-from _ _ (ap (λ p. ltb p s) mw ∙ lt-ltb (y .0) s (a .0)) (ap (λ p. ltb p g) lw ∙ lt-ltb (y .1) g (b .0)))
+
     lanes : Distinct (map (λ q. q .1) xs ++ y .1 ∷ map (λ q. q .1) ps)
     lanes = subst Distinct (map-append (λ q. q .1) xs (y ∷ ps)) d
+
     order : pairInOrder before w ≡ true
     order = ap (λ t. every (λ q. ltb (q .0) (middle w)) t && not (among (low w) (map (λ q. q .1) t))) known
-            ∙ and-from _ _ (rising-middle (middle w) xs ps y mw r)
-              (ap not (ap (λ q. among q (map (λ q. q .1) xs)) lw ∙ distinct-middle (map (λ q. q .1) xs) (y .1) (map (λ q. q .1) ps) lanes))
+        ∙ and-from _ _ (rising-middle (middle w) xs ps y mw r)
+        (ap not (ap (λ q. among q (map (λ q. q .1) xs)) lw ∙ distinct-middle (map (λ q. q .1) xs) (y .1) (map (λ q. q .1) ps) lanes))
 
 module _ (c : Content) (law : Lawful c) where
   head-kind : kind (headWord (c .streams) (c .lanes)) ≡ 1
@@ -209,21 +235,23 @@ module _ (c : Content) (law : Lawful c) where
   choices-clean (suc n) h =
       clean-append (c .streams) (c .lanes) (headWord (c .streams) (c .lanes) ∷ []) (choiceWords (c .ranked) n) (ownerWords n 0 (c .ranked n)) (choices-clean n (omega arith))
       (owner-clean (c .streams) (c .lanes) n before [] (c .ranked n) (law .few-streams) (law .few-lanes) (omega arith) (omega arith)
-       (upto-after 2 (choiceWords (c .ranked) n) (omega arith) (choices-upto 2 n (omega arith) (omega (arith, few-parties c law))))
-       (ap (every (λ v. leb (high v) n)) those ∙ every-weaker (λ v. ltb (high v) n) (λ v. leb (high v) n) (λ v t. le-leb (high v) n (omega (arith, ltb-true (high v) n t))) (choiceWords (c .ranked) n) owners)
-       (ap (λ l. map low (kept-by (λ w. eqb (high w) n) l)) those
-        ∙ ap (map low) (kept-none (λ w. ltb (high w) n) (λ w. eqb (high w) n) (λ w t. ne-eqb (high w) n (λ e. absurd (omega (arith, ltb-true (high w) n t)))) (choiceWords (c .ranked) n) owners))
-       (law .ranks-nobody-twice n)
-       (law .ranks-the-other-side n)
-       (omega (arith, few-ranked c law n)))
+      (upto-after 2 (choiceWords (c .ranked) n) (omega arith) (choices-upto 2 n (omega arith) (omega (arith, few-parties c law))))
+      (ap (every (λ v. leb (high v) n)) those ∙ every-weaker (λ v. ltb (high v) n) (λ v. leb (high v) n) (λ v t. le-leb (high v) n (omega (arith, ltb-true (high v) n t))) (choiceWords (c .ranked) n) owners)
+      (ap (λ l. map low (kept-by (λ w. eqb (high w) n) l)) those
+      ∙ ap (map low) (kept-none (λ w. ltb (high w) n) (λ w. eqb (high w) n) (λ w t. ne-eqb (high w) n (λ e. absurd (omega (arith, ltb-true (high w) n t)))) (choiceWords (c .ranked) n) owners))
+      (law .ranks-nobody-twice n)
+      (law .ranks-the-other-side n)
+      (omega (arith, few-ranked c law n)))
     where
       before : List ℕ
       before = headWord (c .streams) (c .lanes) ∷ choiceWords (c .ranked) n
+
       owners : every (λ w. ltb (high w) n) (choiceWords (c .ranked) n) ≡ true
       owners = choice-owners (c .ranked) (ranked-bytes c law) few256 n (omega (arith, few-parties c law))
+
       those : ofKind 2 (headWord (c .streams) (c .lanes) ∷ choiceWords (c .ranked) n) ≡ choiceWords (c .ranked) n
       those = ap (λ b. cond b (headWord (c .streams) (c .lanes) ∷ ofKind 2 (choiceWords (c .ranked) n)) (ofKind 2 (choiceWords (c .ranked) n))) (ne-eqb (kind (headWord (c .streams) (c .lanes))) 2 (λ e. absurd (omega (arith, head-kind))))
-              ∙ only-same 2 (choiceWords (c .ranked) n) (choice-kinds (c .ranked) (ranked-bytes c law) few256 n (omega (arith, few-parties c law)))
+          ∙ only-same 2 (choiceWords (c .ranked) n) (choice-kinds (c .ranked) (ranked-bytes c law) few256 n (omega (arith, few-parties c law)))
 
   -- all words but the head and the end
   abbrev rest : List ℕ
@@ -236,18 +264,21 @@ module _ (c : Content) (law : Lawful c) where
   rest-clean =
       clean-append (c .streams) (c .lanes) (h ∷ []) cw (map turnWord (c .turns) ++ map pairWord (c .pairs)) (choices-clean (parties c) (omega arith))
       (clean-append (c .streams) (c .lanes) (h ∷ cw) (map turnWord (c .turns)) (map pairWord (c .pairs))
-       (turns-clean (c .streams) (c .lanes) (h ∷ cw) (c .turns) (law .few-streams) (law .few-lanes) (omega arith) (upto 3 (omega arith)) (law .turns-of-parties)
-        (omega (arith, ap (λ l. length (map low l)) (ofKind-none 3 3 (h ∷ cw) (omega arith) (below-of 2 (h ∷ cw) (upto 2 (omega arith)))), law .few-turns)))
-       (pairs-clean (c .streams) (c .lanes) ((h ∷ cw) ++ map turnWord (c .turns)) [] (c .pairs) (law .few-streams) (law .few-lanes) (omega arith) (both 4 (omega arith))
-        (ap (map pairOf) (ofKind-none 4 4 ((h ∷ cw) ++ map turnWord (c .turns)) (omega arith) (below-of 3 ((h ∷ cw) ++ map turnWord (c .turns)) (both 3 (omega arith)))))
-        (law .pairs-of-streams) (law .pairs-of-lanes) (law .streams-rise) (law .no-lane-twice)))
+      (turns-clean (c .streams) (c .lanes) (h ∷ cw) (c .turns) (law .few-streams) (law .few-lanes) (omega arith) (upto 3 (omega arith)) (law .turns-of-parties)
+      (omega (arith, ap (λ l. length (map low l)) (ofKind-none 3 3 (h ∷ cw) (omega arith) (below-of 2 (h ∷ cw) (upto 2 (omega arith)))), law .few-turns)))
+      (pairs-clean (c .streams) (c .lanes) ((h ∷ cw) ++ map turnWord (c .turns)) [] (c .pairs) (law .few-streams) (law .few-lanes) (omega arith) (both 4 (omega arith))
+      (ap (map pairOf) (ofKind-none 4 4 ((h ∷ cw) ++ map turnWord (c .turns)) (omega arith) (below-of 3 ((h ∷ cw) ++ map turnWord (c .turns)) (both 3 (omega arith)))))
+      (law .pairs-of-streams) (law .pairs-of-lanes) (law .streams-rise) (law .no-lane-twice)))
     where
       h : ℕ
       h = headWord (c .streams) (c .lanes)
+
       cw : List ℕ
       cw = choiceWords (c .ranked) (parties c)
+
       upto : (k : ℕ) → 2 ≤ k → UpTo k (h ∷ cw)
       upto k l = upto-after k cw (omega arith) (choices-upto k (parties c) l (omega (arith, few-parties c law)))
+
       both : (k : ℕ) → 3 ≤ k → UpTo k ((h ∷ cw) ++ map turnWord (c .turns))
       both k l = every-append (λ u. leb (kind u) k) (h ∷ cw) (map turnWord (c .turns)) ∙ and-from _ _ (upto k (omega arith)) (turns-upto k l)
 
@@ -271,11 +302,12 @@ module _ (c : Content) (law : Lawful c) where
   head-fits =
       and-from _ _ (eq-eqb (headWord (c .streams) (c .lanes) / 65536 % 4096) 0 (bits-head (c .streams) (c .lanes) (omega (arith, law .few-streams)) (omega (arith, law .few-lanes))))
       (ap (λ m. leb 1 m && (leb m 16 && (leb 1 (low (headWord (c .streams) (c .lanes))) && leb (low (headWord (c .streams) (c .lanes))) 16))) ms
-       ∙ and-from _ _ (le-leb 1 (c .streams) (law .some-stream)) (and-from _ _ (le-leb (c .streams) 16 (law .few-streams))
-         (ap (λ m. leb 1 m && leb m 16) ls ∙ and-from _ _ (le-leb 1 (c .lanes) (law .some-lane)) (le-leb (c .lanes) 16 (law .few-lanes)))))
+      ∙ and-from _ _ (le-leb 1 (c .streams) (law .some-stream)) (and-from _ _ (le-leb (c .streams) 16 (law .few-streams))
+      (ap (λ m. leb 1 m && leb m 16) ls ∙ and-from _ _ (le-leb 1 (c .lanes) (law .some-lane)) (le-leb (c .lanes) 16 (law .few-lanes)))))
     where
       ms : middle (headWord (c .streams) (c .lanes)) ≡ c .streams
       ms = middle-head (c .streams) (c .lanes) (omega (arith, law .few-streams)) (omega (arith, law .few-lanes))
+
       ls : low (headWord (c .streams) (c .lanes)) ≡ c .lanes
       ls = low-head (c .streams) (c .lanes) (omega (arith, law .few-streams)) (omega (arith, law .few-lanes))
 
@@ -287,22 +319,29 @@ module _ (c : Content) (law : Lawful c) where
     where
       hd : ℕ
       hd = headWord (c .streams) (c .lanes)
+
       ms : middle hd ≡ c .streams
       ms = middle-head (c .streams) (c .lanes) (omega (arith, law .few-streams)) (omega (arith, law .few-lanes))
+
       ls : low hd ≡ c .lanes
       ls = low-head (c .streams) (c .lanes) (omega (arith, law .few-streams)) (omega (arith, law .few-lanes))
   content-clear (suc k) h = ⊎-elim inner final (cases-lt k (length rest))
     where
       hd : ℕ
       hd = headWord (c .streams) (c .lanes)
+
       e : ℕ
       e = endWord (length (bodyWords c))
+
       ms : middle hd ≡ c .streams
       ms = middle-head (c .streams) (c .lanes) (omega (arith, law .few-streams)) (omega (arith, law .few-lanes))
+
       ls : low hd ≡ c .lanes
       ls = low-head (c .streams) (c .lanes) (omega (arith, law .few-streams)) (omega (arith, law .few-lanes))
+
       total : length (recordWords c) ≡ length rest + 2
       total = omega (arith, length-push rest e)
+
       inner : k < length rest → faultAt (recordWords c) (suc k) ≡ None
       inner l =
           let f = clean-at (c .streams) (c .lanes) (hd ∷ []) rest rest-clean k l in
@@ -311,6 +350,7 @@ module _ (c : Content) (law : Lawful c) where
           (getD-append-left rest (e ∷ []) 0 k l)
           (ne-eqb (suc k + 1) (length (recordWords c)) (λ s. absurd (omega (arith, total))))
           (f .0) (f .1) (f .2)
+
       final : length rest ≤ k → faultAt (recordWords c) (suc k) ≡ None
       final l =
           let at : k ≡ length rest = omega (arith, total) in
@@ -322,7 +362,7 @@ module _ (c : Content) (law : Lawful c) where
           (allowed-last (hd ∷ rest) e (omega arith) ∙ eq-eqb (kind e) 5 ke)
           (ap (λ j. byKind j (headWithin e) (choiceWithin (c .streams) (c .lanes) e) (turnWithin (c .streams) (c .lanes) e) (pairWithin (c .streams) (c .lanes) e) true) ke)
           (ap (λ j. byKind j true (choiceInOrder (hd ∷ rest) e) (turnInOrder (hd ∷ rest)) (pairInOrder (hd ∷ rest) e) (endInOrder (hd ∷ rest) e)) ke
-           ∙ eq-eqb (number e) (length (bodyWords c)) (number-end (length (bodyWords c)) (omega (arith, few-words c law))))
+          ∙ eq-eqb (number e) (length (bodyWords c)) (number-end (length (bodyWords c)) (omega (arith, few-words c law))))
 
   content-length : lawfulLength (length (recordWords c)) ≡ true
   content-length =
@@ -394,9 +434,18 @@ module _ (c : Content) (law : Lawful c) where
         let o = high w in
         let front = ap length (rankedBy-push (take k cw) w o choice-kind refl) in
         let whole : rankedBy cw o ≡ rankedBy (take (k + 1) cw) o ++ rankedBy (drop (k + 1) cw) o =
-              ap (λ l. rankedBy l o) (sym (take-append-drop (k + 1) cw)) ∙ ranked-append (take (k + 1) cw) (drop (k + 1) cw) o in
-        omega (arith, choice-place, few-ranked c law o, ap length (choices-ranked o), ap length whole, length-append (rankedBy (take (k + 1) cw) o) (rankedBy (drop (k + 1) cw) o),
-          ap (λ l. length (rankedBy l o)) (take-more cw k 0 h), front, length-push (rankedBy (take k cw) o) (low w))
+        ap (λ l. rankedBy l o) (sym (take-append-drop (k + 1) cw)) ∙ ranked-append (take (k + 1) cw) (drop (k + 1) cw) o in
+        omega (
+          arith,
+          choice-place,
+          few-ranked c law o,
+          ap length (choices-ranked o),
+          ap length whole,
+          length-append (rankedBy (take (k + 1) cw) o) (rankedBy (drop (k + 1) cw) o),
+          ap (λ l. length (rankedBy l o)) (take-more cw k 0 h),
+          front,
+          length-push (rankedBy (take k cw) o) (low w),
+        )
       where
         ranked-append : (xs ys : List ℕ) (p : ℕ) → rankedBy (xs ++ ys) p ≡ rankedBy xs p ++ rankedBy ys p
         ranked-append xs ys p =

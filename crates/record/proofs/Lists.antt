@@ -150,7 +150,7 @@ one-dropped n (x ∷ xs) d =
     cond-both (other n x) (x ∷ kept-by (other n) xs) (kept-by (other n) xs) (λ l. suc (length xs) ≤ suc (length l))
     (λ _. omega (arith, one-dropped n xs (d .1)))
     (λ e. let s : x ≡ n = eqb-true x n (not-false (eqb x n) e) in
-          omega (arith, ap length (kept-absent n xs (ap (λ y. among y xs) (sym s) ∙ d .0))))
+    omega (arith, ap length (kept-absent n xs (ap (λ y. among y xs) (sym s) ∙ d .0))))
 
 pub few-distinct : (n : ℕ) (xs : List ℕ) → Distinct xs → All (λ x. x < n) xs → length xs ≤ n
 few-distinct zero [] d a = omega arith

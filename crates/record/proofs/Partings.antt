@@ -72,23 +72,34 @@ module _ (ws : List ℕ) (a b n : ℕ) (p2 : PartRead ws 2 1 a) (p3 : PartRead w
   part-words k part e = sym e ∙ ap (ofKind k) (split ∙ rec .words)
 
   pub parts-read : (s g : ℕ) → s ≡ middle (getD ws 0 0) → g ≡ low (getD ws 0 0) → (c : Content) × (Records ws c × PartsOf c s g (1, between 1 a ws) (a, between a b ws) (b, between b n ws))
-  parts-read s g es eg = (content, (rec, record {
-      streams = es;
-      lanes = eg;
-      choices-at = refl;
-      choice-words = part-words 2 (between 1 a ws) (choices-of h e cs ts ps head-kind (p2 .kinds) (p3 .kinds) (p4 .kinds) end-kind) ∙ content-choices content (rec .lawful);
-      turns-at = omega (arith, length-between ws 1 a (omega (arith, p2 .reached .inside)), p2 .from);
-      turn-words = part-words 3 (between a b ws) (turns-of h e cs ts ps head-kind (p2 .kinds) (p3 .kinds) (p4 .kinds) end-kind) ∙ content-turns content (rec .lawful);
-      pairs-at = omega (arith, length-between ws a b (omega (arith, p3 .reached .inside)), p3 .from);
-      pair-words = part-words 4 (between b n ws) (pairs-of h e cs ts ps head-kind (p2 .kinds) (p3 .kinds) (p4 .kinds) end-kind) ∙ content-pairs content (rec .lawful) }))
+  parts-read s g es eg = (
+    content,
+    (
+      rec,
+      record {
+        streams = es;
+        lanes = eg;
+        choices-at = refl;
+        choice-words = part-words 2 (between 1 a ws) (choices-of h e cs ts ps head-kind (p2 .kinds) (p3 .kinds) (p4 .kinds) end-kind) ∙ content-choices content (rec .lawful);
+        turns-at = omega (arith, length-between ws 1 a (omega (arith, p2 .reached .inside)), p2 .from);
+        turn-words = part-words 3 (between a b ws) (turns-of h e cs ts ps head-kind (p2 .kinds) (p3 .kinds) (p4 .kinds) end-kind) ∙ content-turns content (rec .lawful);
+        pairs-at = omega (arith, length-between ws a b (omega (arith, p3 .reached .inside)), p3 .from);
+        pair-words = part-words 4 (between b n ws) (pairs-of h e cs ts ps head-kind (p2 .kinds) (p3 .kinds) (p4 .kinds) end-kind) ∙ content-pairs content (rec .lawful);
+      },
+    ),
+  )
     where
       h : ℕ
       h = getD ws 0 0
+
       e : ℕ
       e = getD ws n 0
+
       cs : List ℕ
       cs = between 1 a ws
+
       ts : List ℕ
       ts = between a b ws
+
       ps : List ℕ
       ps = between b n ws

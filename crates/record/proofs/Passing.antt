@@ -34,13 +34,14 @@ between-none ws a = let e : a - a ≡ 0 = omega arith in ap (λ n. take n (drop 
 
 pub going-start : (ws : List ℕ) (k a : ℕ) → ReadTo ws k a → Going ws k a a
 going-start ws k a r = record {
-    start = r;
-    from = omega arith;
-    to = r .inside;
-    clean = r .clean;
-    below = every-weaker (λ w. ltb (kind w) k) (λ w. ltb (kind w) (k + 1)) (λ w e. lt-ltb (kind w) (k + 1) (omega (arith, ltb-true (kind w) k e))) (take a ws) (r .below);
-    kinds = ap (every (λ w. eqb (kind w) k)) (between-none ws a);
-    least = λ w. inl refl }
+  start = r;
+  from = omega arith;
+  to = r .inside;
+  clean = r .clean;
+  below = every-weaker (λ w. ltb (kind w) k) (λ w. ltb (kind w) (k + 1)) (λ w e. lt-ltb (kind w) (k + 1) (omega (arith, ltb-true (kind w) k e))) (take a ws) (r .below);
+  kinds = ap (every (λ w. eqb (kind w) k)) (between-none ws a);
+  least = λ w. inl refl;
+}
 
 -- what a word between the first and the last has to be
 pub allowed-middle : (before : List ℕ) (w : ℕ) → 1 ≤ length before → allowed before w false ≡ (leb 2 (kind w) && (leb (kind w) 4 && every (λ u. leb (kind u) (kind w)) before))
@@ -74,19 +75,22 @@ going-step ws k a i g h e f =
       clean = earliest-more (faultAt ws) i (g .clean) ∙ f;
       below = ap (every (λ v. ltb (kind v) (k + 1))) more ∙ every-push (λ v. ltb (kind v) (k + 1)) (take i ws) w ∙ and-from _ _ (g .below) (lt-ltb (kind w) (k + 1) (omega arith));
       kinds = ap (every (λ v. eqb (kind v) k)) (between-more ws a i 0 (g .from) (g .to)) ∙ every-push (λ v. eqb (kind v) k) (between a i ws) w ∙ and-from _ _ (g .kinds) (eq-eqb (kind w) k e);
-      least = λ v. inr (λ s. omega (arith, not-lower (take i ws) w v (ap (λ l. allowed l v false) (sym more) ∙ s))) }
+      least = λ v. inr (λ s. omega (arith, not-lower (take i ws) w v (ap (λ l. allowed l v false) (sym more) ∙ s)));
+    }
 
 -- the part ends at i, where no word that may stand there is of its kind
 part-ends : (ws : List ℕ) (k a i : ℕ) → Going ws k a i → (i + 1 < length ws → allowed (take i ws) (getD ws i 0) false ≡ true → k + 1 ≤ kind (getD ws i 0)) → PartRead ws k a i
 part-ends ws k a i g ahead′ = record {
-    from = g .from;
-    reached = record {
-      inside = g .to;
-      some = omega (arith, g .from, g .start .some);
-      clean = g .clean;
-      below = g .below;
-      ahead = ahead′ };
-    kinds = g .kinds }
+  from = g .from;
+  reached = record {
+    inside = g .to;
+    some = omega (arith, g .from, g .start .some);
+    clean = g .clean;
+    below = g .below;
+    ahead = ahead′;
+  };
+  kinds = g .kinds;
+}
 
 pub going-stops : (ws : List ℕ) (k a i : ℕ) → Going ws k a i → (kind (getD ws i 0) ≡ k → ⊥) → PartRead ws k a i
 going-stops ws k a i g ne =
@@ -113,13 +117,16 @@ fault-of-kind ws k a i g h e lo hi =
   where
     w : ℕ
     w = getD ws i 0
+
     long : 1 ≤ length (take i ws)
     long = rw (front-length ws i (g .to)) (omega (arith, g .from, g .start .some))
+
     all : every (λ u. leb (kind u) (kind w)) (take i ws) ≡ true
     all = every-weaker (λ u. ltb (kind u) (k + 1)) (λ u. leb (kind u) (kind w)) (λ u t. le-leb (kind u) (kind w) (omega (arith, ltb-true (kind u) (k + 1) t))) (take i ws) (g .below)
+
     fine : allowed (take i ws) w (eqb (i + 1) (length ws)) ≡ true
     fine = ap (allowed (take i ws) w) (ne-eqb (i + 1) (length ws) (omega arith)) ∙ allowed-middle (take i ws) w long
-           ∙ and-from _ _ (le-leb 2 (kind w) (omega arith)) (and-from _ _ (le-leb (kind w) 4 (omega arith)) all)
+        ∙ and-from _ _ (le-leb 2 (kind w) (omega arith)) (and-from _ _ (le-leb (kind w) 4 (omega arith)) all)
 
 -- the same by the sizes that the head gives
 pub fault-of-part : (ws : List ℕ) (k a i s g : ℕ) → s ≡ middle (getD ws 0 0) → g ≡ low (getD ws 0 0) → Going ws k a i → i + 1 < length ws → kind (getD ws i 0) ≡ k → 2 ≤ k → k ≤ 4

@@ -75,7 +75,8 @@ none-seen ws m h b =
     let r : rankedBy ws 0 ≡ [] = ap (λ l. map low (kept-by (λ v. eqb (high v) 0) l)) e in
     record {
       owners = λ k. ap (every (λ v. leb (high v) k)) e ∙ sym (le-leb 0 k (omega arith));
-      latest = record { count = sym (ap length r); members = λ q. h q ∙ sym (ap (among q) r) } }
+      latest = record { count = sym (ap length r); members = λ q. h q ∙ sym (ap (among q) r) };
+    }
 
 -- A new owner has chosen nobody.
 pub new-owner : (scan : ChoiceScan) (ws : List ℕ) (o : ℕ) (m : Members) → ((j : ℕ) → has (m .0) j ≡ false) → scan .owner < o → ChoicesSeen scan ws → OwnerSeen (record { owner = o; next = 0; named = m }) ws
@@ -91,18 +92,20 @@ one-more-choice scan at ws w m e l o seen latest added =
     let r : rankedBy (ws ++ w ∷ []) (at .owner) ≡ rankedBy ws (at .owner) ++ low w ∷ [] = rankedBy-push ws w (at .owner) e (sym o) in
     record {
       owners = λ k.
-        ap (every (λ v. leb (high v) k)) (ofKind-push 2 ws w e)
-        ∙ every-push (λ v. leb (high v) k) (ofKind 2 ws) w
-        ∙ ap (λ b. b && leb (high w) k) (seen .owners k)
-        ∙ bound-both (scan .owner) (high w) k l
-        ∙ ap (λ x. leb x k) (sym o);
+          ap (every (λ v. leb (high v) k)) (ofKind-push 2 ws w e)
+          ∙ every-push (λ v. leb (high v) k) (ofKind 2 ws) w
+          ∙ ap (λ b. b && leb (high w) k) (seen .owners k)
+          ∙ bound-both (scan .owner) (high w) k l
+          ∙ ap (λ x. leb x k) (sym o);
       latest = record {
         count = ap (λ x. x + 1) (latest .count) ∙ sym (ap length r ∙ length-push (rankedBy ws (at .owner)) (low w));
         members = λ q.
-          added q
-          ∙ ap (λ b. eqb q (low w) || b) (latest .members q)
-          ∙ or-swap (eqb q (low w)) (among q (rankedBy ws (at .owner)))
-          ∙ sym (ap (among q) r ∙ among-push q (rankedBy ws (at .owner)) (low w)) } }
+            added q
+            ∙ ap (λ b. eqb q (low w) || b) (latest .members q)
+            ∙ or-swap (eqb q (low w)) (among q (rankedBy ws (at .owner)))
+            ∙ sym (ap (among q) r ∙ among-push q (rankedBy ws (at .owner)) (low w));
+      };
+    }
 
 -- no side has more than 16 parties
 pub facing-few : (s g p : ℕ) → s ≤ 16 → g ≤ 16 → facing s g p ≤ 16
@@ -132,7 +135,8 @@ no-pair-seen ws m h b =
     let e : pairsIn ws ≡ [] = ap (map pairOf) (ofKind-none 4 4 ws (omega arith) b) in
     record {
       streams = λ k. ap (every (λ q. ltb (q .0) k)) e ∙ sym (le-leb 0 k (omega arith));
-      lanes = λ q. h q ∙ sym (ap (λ l. among q (map (λ p. p .1) l)) e) }
+      lanes = λ q. h q ∙ sym (ap (λ l. among q (map (λ p. p .1) l)) e);
+    }
 
 -- a pair is in order exactly by what the scan keeps
 pub pair-order : (scan : PairScan) (ws : List ℕ) (w : ℕ) → PairsSeen scan ws → pairInOrder ws w ≡ (leb (scan .floor) (middle w) && not (has (scan .given .0) (low w)))
@@ -148,15 +152,16 @@ one-more-pair scan ws w m e l seen added =
     let r : pairsIn (ws ++ w ∷ []) ≡ pairsIn ws ++ pairOf w ∷ [] = pairsIn-push ws w e in
     record {
       streams = λ k.
-        ap (every (λ q. ltb (q .0) k)) r
-        ∙ every-push (λ q. ltb (q .0) k) (pairsIn ws) (pairOf w)
-        ∙ ap (λ b. b && ltb (middle w) k) (seen .streams k)
-        ∙ floor-above (scan .floor) (middle w) k l;
+          ap (every (λ q. ltb (q .0) k)) r
+          ∙ every-push (λ q. ltb (q .0) k) (pairsIn ws) (pairOf w)
+          ∙ ap (λ b. b && ltb (middle w) k) (seen .streams k)
+          ∙ floor-above (scan .floor) (middle w) k l;
       lanes = λ q.
-        added q
-        ∙ ap (λ b. eqb q (low w) || b) (seen .lanes q)
-        ∙ or-swap (eqb q (low w)) (among q (map (λ p. p .1) (pairsIn ws)))
-        ∙ sym (ap (λ l. among q (map (λ p. p .1) l)) r ∙ ap (among q) (map-push (λ p. p .1) (pairsIn ws) (pairOf w)) ∙ among-push q (map (λ p. p .1) (pairsIn ws)) (low w)) }
+          added q
+          ∙ ap (λ b. eqb q (low w) || b) (seen .lanes q)
+          ∙ or-swap (eqb q (low w)) (among q (map (λ p. p .1) (pairsIn ws)))
+          ∙ sym (ap (λ l. among q (map (λ p. p .1) l)) r ∙ ap (among q) (map-push (λ p. p .1) (pairsIn ws) (pairOf w)) ∙ among-push q (map (λ p. p .1) (pairsIn ws)) (low w));
+    }
   where
     floor-above : (a b k : ℕ) → a ≤ b → (leb a k && ltb b k) ≡ leb (b + 1) k
     floor-above a b k h = grind (arith, tells)

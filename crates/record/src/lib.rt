@@ -1,13 +1,12 @@
 //! The archive record: refusals, bytes to words, and reading a record into its parts.
 
-pub mod refusal;
-pub mod members;
 pub mod bytes;
-pub mod word;
-mod scan;
+pub mod members;
 mod order;
 mod part;
 pub mod read;
-
+pub mod refusal;
+mod scan;
 #[cfg(test)]
 mod tests;
+pub mod word;

@@ -27,7 +27,11 @@ fn choice_within(sizes: Sizes, word: u32) -> bool
     let ranked = low_byte(word);
     let streams = sizes.streams as u16;
     let parties = streams + sizes.lanes as u16;
-    let facing = if owner < streams { sizes.lanes } else { sizes.streams };
+    let facing = if owner < streams {
+        sizes.lanes
+    } else {
+        sizes.streams
+    };
     (word >> 24) % 16 == 0 && owner < parties && ranked < facing
 }
 
@@ -36,7 +40,11 @@ impl ChoiceScan {
     pub(crate) fn new() -> ChoiceScan
         ensures has_seen_no_choice { λ r. ⌜ ((before : List ℕ) → KindsBelow 2 before → ChoicesSeen r before) ⌝ }
     {
-        ChoiceScan { owner: 0, next: 0, named: Members::none() }
+        ChoiceScan {
+            owner: 0,
+            next: 0,
+            named: Members::none(),
+        }
     }
 
     // The scan as an owner that is not below the last one meets it: a new owner has chosen nobody yet.
@@ -48,7 +56,11 @@ impl ChoiceScan {
         if owner == self.owner {
             return self;
         }
-        ChoiceScan { owner, next: 0, named: Members::none() }
+        ChoiceScan {
+            owner,
+            next: 0,
+            named: Members::none(),
+        }
     }
 
     /// Reads one more choice, the word at `at`.
@@ -113,7 +125,10 @@ impl PairScan {
     pub(crate) fn new() -> PairScan
         ensures has_seen_no_pair { λ r. ⌜ ((before : List ℕ) → KindsBelow 4 before → PairsSeen r before) ⌝ }
     {
-        PairScan { floor: 0, given: Members::none() }
+        PairScan {
+            floor: 0,
+            given: Members::none(),
+        }
     }
 
     /// Reads one more pair, the word at `at`.

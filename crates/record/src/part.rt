@@ -16,9 +16,9 @@ use crate::scan::PairScan;
 use crate::scan::Sizes;
 use crate::scan::TurnScan;
 use crate::word::CHOICE;
-use crate::word::kind_of;
 use crate::word::PAIR;
 use crate::word::TURN;
+use crate::word::kind_of;
 
 /// What a reader keeps while it goes through the words of one kind.
 pub trait Scan {
@@ -83,7 +83,12 @@ pub impl Scan for PairScan as ScanPairs {
 }
 
 /// Reads the words of one kind from `from` on, and answers where they end.
-pub(crate) fn read_part<S: Scan + Drop>(words: &[u32], sizes: Sizes, from: usize, scan: S) -> Result<usize, Refusal>
+pub(crate) fn read_part<S: Scan + Drop>(
+    words: &[u32],
+    sizes: Sizes,
+    from: usize,
+    scan: S,
+) -> Result<usize, Refusal>
     requires few { ⌜ length (now words) ≤ 8192 ⌝ }
     requires sizes_of_the_head { ⌜ (sizes .streams ≡ middle (getD (now words) 0 0)) × (sizes .lanes ≡ low (getD (now words) 0 0)) ⌝ }
     requires a_middle_kind { ⌜ (2 ≤ scans scan) × (scans scan ≤ 4) ⌝ }

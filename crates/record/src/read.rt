@@ -11,15 +11,15 @@ ghost use Rattle.record.specs.Format.{Content, Records, OneContent, OneRecord}
 ghost use Rattle.record.specs.Reading.{ReadTo, PartsOf};
 use crate::bytes::FEWEST_WORDS;
 use crate::bytes::MOST_WORDS;
+use crate::part::ScanChoices;
+use crate::part::ScanPairs;
+use crate::part::ScanTurns;
+use crate::part::read_part;
 use crate::refusal::Refusal;
 use crate::scan::ChoiceScan;
 use crate::scan::PairScan;
 use crate::scan::Sizes;
 use crate::scan::TurnScan;
-use crate::part::read_part;
-use crate::part::ScanChoices;
-use crate::part::ScanPairs;
-use crate::part::ScanTurns;
 use crate::word::END;
 use crate::word::HEAD;
 use crate::word::kind_of;
@@ -48,7 +48,10 @@ fn read_head(words: &[u32]) -> Result<Sizes, Refusal>
     if !head_within(word) {
         return Err(Refusal::Limit(0));
     }
-    Ok(Sizes { streams: middle_byte(word), lanes: low_byte(word) })
+    Ok(Sizes {
+        streams: middle_byte(word),
+        lanes: low_byte(word),
+    })
 }
 
 // Reads the end, which has to be the last word and to count the words before it.
@@ -97,10 +100,25 @@ fn read_parts(words: &[u32]) -> Result<Parts<'_>, Refusal>
     let pairs_at = read_part(words, sizes, turns_at, TurnScan::new())?;
     let end_at = read_part(words, sizes, pairs_at, PairScan::new())?;
     read_end(words, end_at)?;
-    let choices = Part { at: 1, words: &words[1..turns_at] };
-    let turns = Part { at: turns_at, words: &words[turns_at..pairs_at] };
-    let pairs = Part { at: pairs_at, words: &words[pairs_at..end_at] };
-    Ok(Parts { streams: sizes.streams, lanes: sizes.lanes, choices, turns, pairs })
+    let choices = Part {
+        at: 1,
+        words: &words[1..turns_at],
+    };
+    let turns = Part {
+        at: turns_at,
+        words: &words[turns_at..pairs_at],
+    };
+    let pairs = Part {
+        at: pairs_at,
+        words: &words[pairs_at..end_at],
+    };
+    Ok(Parts {
+        streams: sizes.streams,
+        lanes: sizes.lanes,
+        choices,
+        turns,
+        pairs,
+    })
 }
 
 /// Reads a record in one pass over its words. Refuses 1 for its length, else 2, 3 or 4 for the earliest faulty word.

@@ -3,9 +3,13 @@ ghost use Rattle.record.specs.Faults.{kind, high, middle, low, number};
 
 /// The kinds of words.
 pub const HEAD: u32 = 1;
+
 pub const CHOICE: u32 = 2;
+
 pub const TURN: u32 = 3;
+
 pub const PAIR: u32 = 4;
+
 pub const END: u32 = 5;
 
 /// The kind of a word, its top four bits.

@@ -27,7 +27,8 @@ lanes-of-lanes-requires c κs =
     let e = ap (map middle) (told .1 .1 .pair-words) ∙ pair-streams (content .pairs) (pair-bytes content law) in
     record {
       streams-rise = subst Rising (sym e) (law .streams-rise);
-      streams-are-few = subst (All (λ x. x < 16)) (sym e) (few-streams-of content law) }
+      streams-are-few = subst (All (λ x. x < 16)) (sym e) (few-streams-of content law);
+    }
 
 -- a record's own pairing is never refused
 not-refused : (c : Content) → Lawful c → (x : Meaning) (bytes : List ℕ) → x ≡ contentMeaning c → bytes ≡ pairingOf c → pairingFault (marketOf x) bytes ≡ None
@@ -66,7 +67,15 @@ returns c =
     let found = subst (λ x. Found (marketOf x) (holdingOf (marketOf x) (take (n - 0) lanes)) (c .in-Continue-finding .finding)) (told .1 .2) (c .in-Continue-finding .ensures tt .found-as-told) in
     record {
       refused-as-told = sym (record-faultless (c .args .words .now) content (told .1 .0));
-      judged-by-the-content = (content, (told .1 .0, record {
-        streams = told .1 .1 .streams;
-        pairing = whole ∙ bytes;
-        finding = subst (λ l. Found (marketOf (contentMeaning content)) (holdingOf (marketOf (contentMeaning content)) l) (c .in-Continue-finding .finding)) bytes found })) }
+      judged-by-the-content = (
+        content,
+        (
+          told .1 .0,
+          record {
+            streams = told .1 .1 .streams;
+            pairing = whole ∙ bytes;
+            finding = subst (λ l. Found (marketOf (contentMeaning content)) (holdingOf (marketOf (contentMeaning content)) l) (c .in-Continue-finding .finding)) bytes found;
+          },
+        ),
+      );
+    }

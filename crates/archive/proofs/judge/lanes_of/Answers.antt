@@ -24,14 +24,16 @@ loop-k-again c =
     let lanes = c .loop-k .lanes in
     let few = all-getD (λ x. x < 16) (map middle ws) k 0 (subst (λ n. k < n) (sym (length-map ws middle)) (c .loop-k-test .taken)) (c .pre .streams-are-few) in
     let small : middle (getD ws k 0) < 16 = omega (arith, getD-map middle ws k 0 0 (c .loop-k-test .taken), few) in
-    let next = one-paired lanes ws k (c .loop-k-test .taken) (c .loop-k .inv .1) (c .pre .streams-rise) small (c .loop-k .inv .0) in
-    ( subst (λ x. (i : ℕ) → i < 16 → getD (set lanes x (c .low-byte .result)) i 255 ≡ laneOf (map pairOf (take (k + 1) ws)) i) (sym (c .middle-byte .ensures .is-the-middle-byte))
-      (subst (λ x. (i : ℕ) → i < 16 → getD (set lanes (middle (getD ws k 0)) x) i 255 ≡ laneOf (map pairOf (take (k + 1) ws)) i) (sym (c .low-byte .ensures .is-the-low-byte)) next),
-      length-set lanes (c .middle-byte .result) (c .low-byte .result) ∙ c .loop-k .inv .1 )
+    let next = one-paired lanes ws k (c .loop-k-test .taken) (c .loop-k .inv .1) (c .pre .streams-rise) small (c .loop-k .inv .0) in (
+      subst (λ x. (i : ℕ) → i < 16 → getD (set lanes x (c .low-byte .result)) i 255 ≡ laneOf (map pairOf (take (k + 1) ws)) i) (sym (c .middle-byte .ensures .is-the-middle-byte))
+          (subst (λ x. (i : ℕ) → i < 16 → getD (set lanes (middle (getD ws k 0)) x) i 255 ≡ laneOf (map pairOf (take (k + 1) ws)) i) (sym (c .low-byte .ensures .is-the-low-byte)) next),
+      length-set lanes (c .middle-byte .result) (c .low-byte .result) ∙ c .loop-k .inv .1,
+    )
 
 pub returns : need.returns
 returns c =
     let ws = c .args .pairs .now in
     record {
       has-every-pair = λ i h. c .loop-k .inv .0 i h ∙ ap (λ l. laneOf (map pairOf l) i) (take-all (c .loop-k .k) ws (omega arith));
-      is-whole = c .loop-k .inv .1 }
+      is-whole = c .loop-k .inv .1;
+    }

@@ -23,9 +23,12 @@ returns-then-number-lt10 t c =
     let o = c .args .out .now in
     let room : at < length o = omega (arith, c .pre .there-is-room, decimal-some n (omega arith)) in
     let e : 48 + n % 10 ≡ 48 + n = omega arith in
-    record { takes-at-most-five = omega arith; wrote-the-number =
-        wrote-as o (set o at (48 + n % 10)) ((48 + n % 10) ∷ []) (decimal n) at (at + 1) (at + 1)
-        (ap (λ d. d ∷ []) e ∙ sym (decimal-digit n (omega arith))) refl (wrote-byte o at (48 + n % 10) room) }
+    record {
+      takes-at-most-five = omega arith;
+      wrote-the-number =
+          wrote-as o (set o at (48 + n % 10)) ((48 + n % 10) ∷ []) (decimal n) at (at + 1) (at + 1)
+          (ap (λ d. d ∷ []) e ∙ sym (decimal-digit n (omega arith))) refl (wrote-byte o at (48 + n % 10) room);
+    }
 
 pub put-number-next-requires : need.put-number-next-requires
 put-number-next-requires t c κs =
@@ -51,6 +54,9 @@ returns t c =
     let next = c .put-number-next .result in
     let w = c .put-number-next .ensures .wrote-the-number in
     let room : next < length p = omega (arith, c .pre .there-is-room, longer n (omega arith) (omega arith), w .place, w .size) in
-    record { takes-at-most-five = omega (arith, w .place, longer n (omega arith) (omega arith), length-decimal-le 5 n (omega arith) (omega arith) (omega arith)); wrote-the-number =
-        wrote-as o (set p next (48 + n % 10)) (decimal (n / 10) ++ ((48 + n % 10) ∷ [])) (decimal n) at (next + 1) (next + 1) (sym (decimal-step n (omega arith) (omega arith))) refl
-        (wrote-both o p (set p next (48 + n % 10)) (decimal (n / 10)) ((48 + n % 10) ∷ []) at next (next + 1) w (wrote-byte p next (48 + n % 10) room)) }
+    record {
+      takes-at-most-five = omega (arith, w .place, longer n (omega arith) (omega arith), length-decimal-le 5 n (omega arith) (omega arith) (omega arith));
+      wrote-the-number =
+          wrote-as o (set p next (48 + n % 10)) (decimal (n / 10) ++ ((48 + n % 10) ∷ [])) (decimal n) at (next + 1) (next + 1) (sym (decimal-step n (omega arith) (omega arith))) refl
+          (wrote-both o p (set p next (48 + n % 10)) (decimal (n / 10)) ((48 + n % 10) ∷ []) at next (next + 1) w (wrote-byte p next (48 + n % 10) room));
+    }

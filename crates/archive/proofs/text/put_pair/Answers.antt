@@ -6,5 +6,6 @@ use Rattle.archive.proofs.text.put_pair.Needs as need
 
 pub returns : need.returns
 returns c = record {
-    takes-at-most-ten = omega arith;
-    wrote-the-line = wrote-both _ _ _ _ _ _ _ _ (wrote-both _ _ _ _ _ _ _ _ (c .put-party-space .ensures .wrote-the-party) (wrote-both _ _ _ _ _ _ _ _ (c .put-holding .ensures .wrote-the-bytes) (c .put-holding-end .ensures .wrote-the-holding))) (c .put .ensures .wrote-the-bytes) }
+  takes-at-most-ten = omega arith;
+  wrote-the-line = wrote-both _ _ _ _ _ _ _ _ (wrote-both _ _ _ _ _ _ _ _ (c .put-party-space .ensures .wrote-the-party) (wrote-both _ _ _ _ _ _ _ _ (c .put-holding .ensures .wrote-the-bytes) (c .put-holding-end .ensures .wrote-the-holding))) (c .put .ensures .wrote-the-bytes);
+}

@@ -11,4 +11,5 @@ returns c =
     let w = c .put-number .ensures .wrote-the-number in
     record {
       takes-at-most-four = omega (arith, w .place, length-decimal-le 3 (c .args .number) (omega arith) (omega arith) (omega arith));
-      wrote-the-party = wrote-both _ _ _ _ _ _ _ _ (c .put-next .ensures .wrote-the-bytes) w }
+      wrote-the-party = wrote-both _ _ _ _ _ _ _ _ (c .put-next .ensures .wrote-the-bytes) w;
+    }

@@ -16,7 +16,10 @@ pub returns : need.returns
 returns c =
     let number = subst (λ n. Wrote (c .put-number .last .out) (c .put-number .result) (decimal n) (c .put-number-between .last .out) (c .put-number-between .result)) (c .number .ensures .is-the-number) (c .put-number-between .ensures .wrote-the-number) in
     let place = subst (λ n. Wrote (c .put-place .last .out) (c .put-place .result) (decimal n) (c .put-number-end .last .out) (c .put-number-end .result)) (c .place .ensures .is-the-place) (c .put-number-end .ensures .wrote-the-number) in
-    record { takes-at-most-twenty-three = omega arith; wrote-the-line =
-        wrote-both _ _ _ _ _ _ _ _
-        (wrote-both _ _ _ _ _ _ _ _ (c .put-number .ensures .wrote-the-bytes) (wrote-both _ _ _ _ _ _ _ _ number (wrote-both _ _ _ _ _ _ _ _ (c .put-place .ensures .wrote-the-bytes) place)))
-        (c .put .ensures .wrote-the-bytes) }
+    record {
+      takes-at-most-twenty-three = omega arith;
+      wrote-the-line =
+          wrote-both _ _ _ _ _ _ _ _
+          (wrote-both _ _ _ _ _ _ _ _ (c .put-number .ensures .wrote-the-bytes) (wrote-both _ _ _ _ _ _ _ _ number (wrote-both _ _ _ _ _ _ _ _ (c .put-place .ensures .wrote-the-bytes) place)))
+          (c .put .ensures .wrote-the-bytes);
+    }

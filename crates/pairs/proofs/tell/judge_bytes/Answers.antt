@@ -20,7 +20,8 @@ returns c =
     let read : take (n - 0) words ≡ wordsOf bytes = ap (λ k. take k words) z ∙ c .in-Continue-count .ensures tt .words-or-unchanged .front in
     record {
       refused-as-told =
-        c .judge .ensures .refused-as-told
-        ∙ ap recordFault read
-        ∙ ap (λ o. orElse o (recordFault (wordsOf bytes))) (c .in-Continue-count .ensures tt .refused-as-told);
-      judged-by-the-content = subst (λ ws. Cases (c .judge .result) (λ j. (x : Content) × (Records ws x × JudgedOf x j)) (λ _. Unit {0})) read (c .judge .ensures .judged-by-the-content) }
+          c .judge .ensures .refused-as-told
+          ∙ ap recordFault read
+          ∙ ap (λ o. orElse o (recordFault (wordsOf bytes))) (c .in-Continue-count .ensures tt .refused-as-told);
+      judged-by-the-content = subst (λ ws. Cases (c .judge .result) (λ j. (x : Content) × (Records ws x × JudgedOf x j)) (λ _. Unit {0})) read (c .judge .ensures .judged-by-the-content);
+    }

@@ -17,15 +17,16 @@ loop-k-again c =
     let k = c .loop-k .k in
     let w = c .word-at .result in
     let h : k < length ws = omega arith in
-    let e : w ∷ [] ≡ wordAt bs k ∷ [] = ap (λ x. x ∷ []) (c .word-at .ensures .is-the-word) in
-    ( take-more-set ws k w h
-      ∙ ap (λ l. l ++ w ∷ []) (c .loop-k .inv .0)
-      ∙ ap (λ l. map (wordAt bs) (counting 0 k) ++ l) e
-      ∙ sym (map-counting-more (wordAt bs) 0 k k (omega arith)),
+    let e : w ∷ [] ≡ wordAt bs k ∷ [] = ap (λ x. x ∷ []) (c .word-at .ensures .is-the-word) in (
+      take-more-set ws k w h
+          ∙ ap (λ l. l ++ w ∷ []) (c .loop-k .inv .0)
+          ∙ ap (λ l. map (wordAt bs) (counting 0 k) ++ l) e
+          ∙ sym (map-counting-more (wordAt bs) 0 k k (omega arith)),
       drop-set-lt (k + 1) ws k w (omega arith)
-      ∙ sym (drop-drop 1 k ws)
-      ∙ ap (drop 1) (c .loop-k .inv .1)
-      ∙ drop-drop 1 k (c .args .words .now) )
+          ∙ sym (drop-drop 1 k ws)
+          ∙ ap (drop 1) (c .loop-k .inv .1)
+          ∙ drop-drop 1 k (c .args .words .now),
+    )
 
 pub returns : need.returns
 returns c =
@@ -39,4 +40,6 @@ returns c =
       words-or-unchanged = record {
         count = sym (length-map-counting (wordAt bs) 0 (length bs / 4));
         front = rw e at taken;
-        rest = rw e at left } }
+        rest = rw e at left;
+      };
+    }

@@ -48,10 +48,11 @@ loop-at-again g c =
     let inv = c .loop-at .inv in
     let ok = c .in-Continue-word .ensures tt in
     let of-kind : kind (getD ws at 0) ≡ k = sym (c .kind-of .ensures .is-the-kind) ∙ c .if-kind-of-kind .left in
-    let f = fault-of-part ws k (c .args .from) at (c .args .sizes .streams) (c .args .sizes .lanes) (head .0) (head .1) (inv .0) (omega arith) of-kind (omega (arith, c .kind-kind .ensures .is-the-kind, c .pre .a-middle-kind .0)) (omega (arith, c .kind-kind .ensures .is-the-kind, c .pre .a-middle-kind .1)) in
-    ( going-step ws k (c .args .from) at (inv .0) (omega arith) of-kind (f ∙ sym (ok .refused-as-told (take at ws) (inv .1))),
+    let f = fault-of-part ws k (c .args .from) at (c .args .sizes .streams) (c .args .sizes .lanes) (head .0) (head .1) (inv .0) (omega arith) of-kind (omega (arith, c .kind-kind .ensures .is-the-kind, c .pre .a-middle-kind .0)) (omega (arith, c .kind-kind .ensures .is-the-kind, c .pre .a-middle-kind .1)) in (
+      going-step ws k (c .args .from) at (inv .0) (omega arith) of-kind (f ∙ sym (ok .refused-as-told (take at ws) (inv .1))),
       subst (g .S·Scan .sees (c .word .last .self)) (sym (take-more ws at 0 (omega arith))) (ok .has-seen-one-more (take at ws) (inv .1) refl),
-      ok .same-kind ∙ inv .2 )
+      ok .same-kind ∙ inv .2,
+    )
 
 pub returns : need.returns
 returns g c =

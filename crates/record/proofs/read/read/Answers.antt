@@ -24,4 +24,5 @@ returns c =
       parts-of-the-content = answer .parts-of-the-content;
       reads-every-record = λ d r. not-refused (c .read-parts .result) (answer .refused-as-told ∙ record-faultless (c .args .words .now) d r);
       one-content-a-record = one-content;
-      one-record-a-content = one-record }
+      one-record-a-content = one-record;
+    }

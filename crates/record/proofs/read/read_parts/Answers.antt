@@ -19,8 +19,9 @@ returns c =
     let head = c .in-Continue-sizes .ensures tt .sizes-or-first-fault .1 in
     let end = c .in-Continue-read-end .ensures tt .end-or-first-fault in
     let parts = parts-read ws (c .in-Continue-turns-at .turns-at) (c .in-Continue-pairs-at .pairs-at) (c .in-Continue-end-at .end-at)
-          (c .in-Continue-turns-at .ensures tt .part-or-first-fault) (c .in-Continue-pairs-at .ensures tt .part-or-first-fault) (c .in-Continue-end-at .ensures tt .part-or-first-fault) (end .1) (end .0) (c .in-Continue-sizes .sizes .streams) (c .in-Continue-sizes .sizes .lanes) (head .0) (head .1) in
+    (c .in-Continue-turns-at .ensures tt .part-or-first-fault) (c .in-Continue-pairs-at .ensures tt .part-or-first-fault) (c .in-Continue-end-at .ensures tt .part-or-first-fault) (end .1) (end .0) (c .in-Continue-sizes .sizes .streams) (c .in-Continue-sizes .sizes .lanes) (head .0) (head .1) in
     let long : lawfulLength (length ws) ≡ true = and-from _ _ (le-leb 2 (length ws) (omega arith)) (le-leb (length ws) 8192 (omega arith)) in
     record {
       refused-as-told = sym (ap (λ b. orElse (refuseIf (not b) (1, 0)) (earliest (faultAt ws) (length ws))) long ∙ end .0);
-      parts-of-the-content = parts }
+      parts-of-the-content = parts;
+    }

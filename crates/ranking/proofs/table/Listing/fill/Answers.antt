@@ -16,13 +16,18 @@ pub ghost-self : need.ghost-self
 ghost-self c =
     let told = c .in-Continue-parts .ensures tt .parts-of-the-content in
     let law = told .1 .0 .lawful in
-    let parts = told .1 .1 in
-    ( ( subst (λ n. 1 ≤ n) (sym (parts .streams)) (law .some-stream),
+    let parts = told .1 .1 in (
+      (
+        subst (λ n. 1 ≤ n) (sym (parts .streams)) (law .some-stream),
         subst (λ n. n ≤ 16) (sym (parts .streams)) (law .few-streams),
         subst (λ n. 1 ≤ n) (sym (parts .lanes)) (law .some-lane),
-        subst (λ n. n ≤ 16) (sym (parts .lanes)) (law .few-lanes) ),
-      ( entered-distinct (c .places-of-places .result) (c .in-Continue-parts .parts .choices .words .now) (c .places-of-places .ensures .is-whole) (c .places-of-places .ensures .has-every-place),
-        tt ) )
+        subst (λ n. n ≤ 16) (sym (parts .lanes)) (law .few-lanes),
+      ),
+      (
+        entered-distinct (c .places-of-places .result) (c .in-Continue-parts .parts .choices .words .now) (c .places-of-places .ensures .is-whole) (c .places-of-places .ensures .has-every-place),
+        tt,
+      ),
+    )
 
 pub returns : need.returns
 returns c =
@@ -30,8 +35,15 @@ returns c =
     let parts = told .1 .1 in
     record {
       refused-as-told =
-        sym (ap (λ o. orElse o (refuseIf (c .args .self .now .filled) (11, 0))) (sym (c .in-Continue-parts .ensures tt .refused-as-told)) ∙ ap (λ b. refuseIf b (11, 0)) (c .if-self .left));
-      ranks-by-the-content = (told .0, (told .1 .0, parts,
-        table-content (told .0) (told .1 .0 .lawful) (c .in-Continue-parts .parts .choices .words .now) (c .places-of-places .result) (c .in-Continue-parts .parts .streams) (c .in-Continue-parts .parts .lanes) (parts .choice-words) (c .places-of-places .ensures .has-every-place) (parts .streams) (parts .lanes)));
+          sym (ap (λ o. orElse o (refuseIf (c .args .self .now .filled) (11, 0))) (sym (c .in-Continue-parts .ensures tt .refused-as-told)) ∙ ap (λ b. refuseIf b (11, 0)) (c .if-self .left));
+      ranks-by-the-content = (
+        told .0,
+        (
+          told .1 .0,
+          parts,
+          table-content (told .0) (told .1 .0 .lawful) (c .in-Continue-parts .parts .choices .words .now) (c .places-of-places .result) (c .in-Continue-parts .parts .streams) (c .in-Continue-parts .parts .lanes) (parts .choice-words) (c .places-of-places .ensures .has-every-place) (parts .streams) (parts .lanes),
+        ),
+      );
       filled-once = refl;
-      refused-changes-nothing = tt }
+      refused-changes-nothing = tt;
+    }

@@ -16,14 +16,17 @@ ghost-result c = (omega arith, (none-distinct 512, tt))
 -- a question of the empty table answers none, within the sizes and outside
 none-within : (a b : Bool) (p q : ℕ) → cond a (cond b (placeAt (replicate 512 255) p q) None) None ≡ None
 none-within a b p q = elim a as (λ x. cond x (cond b (placeAt (replicate 512 255) p q) None) None ≡ None) [
-    mathlib.Core.Bool.true ↦ elim b as (λ y. cond y (placeAt (replicate 512 255) p q) None ≡ None) [ mathlib.Core.Bool.true ↦ no-place 512 p q | mathlib.Core.Bool.false ↦ refl ]
-  | mathlib.Core.Bool.false ↦ refl ]
+  | mathlib.Core.Bool.true ↦ elim b as (λ y. cond y (placeAt (replicate 512 255) p q) None ≡ None) [ mathlib.Core.Bool.true ↦ no-place 512 p q | mathlib.Core.Bool.false ↦ refl ]
+  | mathlib.Core.Bool.false ↦ refl
+]
 
 pub returns : need.returns
 returns c = record {
-    ranks-nobody = λ k. record {
-      streams = 1;
-      lanes = 1;
-      byStream = λ i j. none-within (ltb i 1) (ltb j 1) i j k;
-      byLane = λ j i. none-within (ltb j 1) (ltb i 1) (1 + j) i k };
-    not-filled = refl }
+  ranks-nobody = λ k. record {
+    streams = 1;
+    lanes = 1;
+    byStream = λ i j. none-within (ltb i 1) (ltb j 1) i j k;
+    byLane = λ j i. none-within (ltb j 1) (ltb i 1) (1 + j) i k;
+  };
+  not-filled = refl;
+}

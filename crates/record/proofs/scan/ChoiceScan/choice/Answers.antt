@@ -16,10 +16,11 @@ returns-then-owner-self c =
     let h : high (c .args .word) < c .args .self .now .owner = omega arith in
     record {
       refused-as-told = λ before seen.
-        let o = choice-below (c .args .self .now) before (c .args .word) h seen in
-        let w = c .if-not-choice-within .ensures tt .is-the-rule in
-        sym (ap (λ b. orElse (refuseIf (not b) (3, c .args .at)) (refuseIf (not (choiceInOrder before (c .args .word))) (4, c .args .at))) (sym w) ∙ ap (λ b. refuseIf (not b) (4, c .args .at)) o);
-      has-seen-one-more = λ before seen e. grind arith }
+          let o = choice-below (c .args .self .now) before (c .args .word) h seen in
+          let w = c .if-not-choice-within .ensures tt .is-the-rule in
+          sym (ap (λ b. orElse (refuseIf (not b) (3, c .args .at)) (refuseIf (not (choiceInOrder before (c .args .word))) (4, c .args .at))) (sym w) ∙ ap (λ b. refuseIf (not b) (4, c .args .at)) o);
+      has-seen-one-more = λ before seen e. grind arith;
+    }
 
 pub returns : need.returns
 returns c =
@@ -37,11 +38,12 @@ returns c =
     let kept = c .at-owner-scan .ensures .keeps-what-was-seen in
     record {
       refused-as-told = λ before seen.
-        let order = choice-order scan at before word l o seen (kept before seen) in
-        sym (ap (λ b. orElse (refuseIf (not b) (3, c .args .at)) (refuseIf (not (choiceInOrder before word)) (4, c .args .at))) w
-             ∙ ap (λ b. refuseIf (not b) (4, c .args .at)) (order ∙ ap (λ b. b && not (has (at .named .0) (low word))) place ∙ ap not new));
+          let order = choice-order scan at before word l o seen (kept before seen) in
+          sym (ap (λ b. orElse (refuseIf (not b) (3, c .args .at)) (refuseIf (not (choiceInOrder before word)) (4, c .args .at))) w
+          ∙ ap (λ b. refuseIf (not b) (4, c .args .at)) (order ∙ ap (λ b. b && not (has (at .named .0) (low word))) place ∙ ap not new));
       has-seen-one-more = λ before seen e.
-        one-more-choice scan at before word (c .insert .last .self) (c .pre .is-a-choice) l o seen (kept before seen)
-        (λ j. c .insert .ensures .adds-one j
-              ∙ ap (λ b. b && eqb j (c .low-byte-ranked .result) || has (at .named .0) j) (lt-ltb (c .low-byte-ranked .result) 16 few)
-              ∙ ap (λ x. eqb j x || has (at .named .0) j) q) }
+          one-more-choice scan at before word (c .insert .last .self) (c .pre .is-a-choice) l o seen (kept before seen)
+          (λ j. c .insert .ensures .adds-one j
+          ∙ ap (λ b. b && eqb j (c .low-byte-ranked .result) || has (at .named .0) j) (lt-ltb (c .low-byte-ranked .result) 16 few)
+          ∙ ap (λ x. eqb j x || has (at .named .0) j) q);
+    }

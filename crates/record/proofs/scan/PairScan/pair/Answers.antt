@@ -15,20 +15,24 @@ pub returns-then-stream-self : need.returns-then-stream-self
 returns-then-stream-self c =
     record {
       refused-as-told = λ before seen.
-        sym (order-decides _ _ false (3, c .args .at) (4, c .args .at) (sym (c .if-not-pair-within .ensures tt .is-the-rule)) (pair-order scan before word seen ∙ wrong));
-      has-seen-one-more = λ before seen e. grind arith }
+          sym (order-decides _ _ false (3, c .args .at) (4, c .args .at) (sym (c .if-not-pair-within .ensures tt .is-the-rule)) (pair-order scan before word seen ∙ wrong));
+      has-seen-one-more = λ before seen e. grind arith;
+    }
   where
     word : ℕ
     word = c .args .word
+
     scan : PairScan
     scan = c .args .self .now
+
     wrong : (leb (scan .floor) (middle word) && not (has (scan .given .0) (low word))) ≡ false
     wrong = elim (c .then-stream-self .came) [
-        then-stream-self·by·then-stream-self w ↦
+      | then-stream-self·by·then-stream-self w ↦
           and-left (leb (scan .floor) (middle word)) (not (has (scan .given .0) (low word))) (lt-leb (scan .floor) (middle word) (omega (arith, w .if-stream-self .taken)))
       | then-stream-self·by·else-stream-self·then-contains w ↦
           and-right (leb (scan .floor) (middle word)) (not (has (scan .given .0) (low word)))
-          (ap not (ap (has (scan .given .0)) (sym (c .low-byte-lane .ensures .is-the-low-byte)) ∙ sym (w .if-contains .ensures tt .is-membership))) ]
+          (ap not (ap (has (scan .given .0)) (sym (c .low-byte-lane .ensures .is-the-low-byte)) ∙ sym (w .if-contains .ensures tt .is-membership)))
+    ]
 
 pub returns : need.returns
 returns c =
@@ -46,9 +50,10 @@ returns c =
     let next : c .middle-byte-stream .result + 1 ≡ middle word + 1 = omega arith in
     record {
       refused-as-told = λ before seen.
-        sym (order-decides _ _ true (3, c .args .at) (4, c .args .at) w (pair-order scan before word seen ∙ right));
+          sym (order-decides _ _ true (3, c .args .at) (4, c .args .at) w (pair-order scan before word seen ∙ right));
       has-seen-one-more = λ before seen e.
-        rw next (one-more-pair scan before word m (c .pre .is-a-pair) above seen
-        (λ j. c .insert .ensures .adds-one j
-              ∙ ap (λ b. b && eqb j lane || has (scan .given .0) j) (lt-ltb lane 16 few)
-              ∙ ap (λ x. eqb j x || has (scan .given .0) j) q)) }
+          rw next (one-more-pair scan before word m (c .pre .is-a-pair) above seen
+          (λ j. c .insert .ensures .adds-one j
+          ∙ ap (λ b. b && eqb j lane || has (scan .given .0) j) (lt-ltb lane 16 few)
+          ∙ ap (λ x. eqb j x || has (scan .given .0) j) q));
+    }

@@ -14,8 +14,9 @@ returns c =
     let sizes = c .args .sizes in
     let scan = c .args .self .now in
     let w : turnWithin (sizes .streams) (sizes .lanes) word ≡ true =
-        and-from (eqb (word / 256 % 0x100000) 0) (ltb (low word) (sizes .streams + sizes .lanes)) (eq-eqb (word / 256 % 0x100000) 0 (omega arith)) (lt-ltb (low word) (sizes .streams + sizes .lanes) (omega arith)) in
+    and-from (eqb (word / 256 % 0x100000) 0) (ltb (low word) (sizes .streams + sizes .lanes)) (eq-eqb (word / 256 % 0x100000) 0 (omega arith)) (lt-ltb (low word) (sizes .streams + sizes .lanes) (omega arith)) in
     record {
       refused-as-told = λ before seen.
-        sym (order-decides _ _ true (3, c .args .at) (4, c .args .at) w (turn-order scan before seen ∙ lt-ltb (scan .count) 7600 (omega arith)));
-      has-seen-one-more = λ before seen e. one-more-turn scan before word (c .pre .is-a-turn) seen }
+          sym (order-decides _ _ true (3, c .args .at) (4, c .args .at) w (turn-order scan before seen ∙ lt-ltb (scan .count) 7600 (omega arith)));
+      has-seen-one-more = λ before seen e. one-more-turn scan before word (c .pre .is-a-turn) seen;
+    }
