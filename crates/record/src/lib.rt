@@ -1,7 +1,7 @@
 //! The archive record: refusals, bytes to words, and reading a record into its parts.
 
 pub mod bytes;
-pub mod members;
+mod members;
 mod order;
 mod part;
 pub mod read;

@@ -10,21 +10,21 @@ pub struct Members(u16);
 
 impl Members {
     /// The set with no member.
-    pub fn none() -> Members
+    pub(crate) fn none() -> Members
         ensures has_nobody { λ r. ⌜ ((j : ℕ) → has (r .0) j ≡ false) ⌝ }
     {
         Members(0)
     }
 
     /// Whether `k` is a member; no number above 15 is.
-    pub fn contains(self, k: u8) -> bool
+    pub(crate) fn contains(self, k: u8) -> bool
         ensures is_membership { λ r. ⌜ r ≡ has (self .0) k ⌝ }
     {
         k < 16 && (self.0 >> k) % 2 == 1
     }
 
     /// Adds `k`; a number above 15 adds nobody.
-    pub fn insert(&mut self, k: u8)
+    pub(crate) fn insert(&mut self, k: u8)
         ensures adds_one { λ _. ⌜ ((j : ℕ) → has (now (self .exit) .0) j ≡ (ltb k 16 && eqb j k || has (now (self .entry) .0) j)) ⌝ }
     {
         if k < 16 {

@@ -2,6 +2,7 @@ ghost use mathlib.Core.Path.{_≡_};
 ghost use mathlib.Core.List.{List, [], _∷_, _++_};
 ghost use mathlib.Core.Bool.{not};
 ghost use Prim.Native.Nat.{ℕ, _+_, _<_, _≤_};
+ghost use Rattle.std.specs.Results.{Cases};
 ghost use Rattle.std.specs.declared.option.Option.the-variants.{None};
 ghost use Rattle.record.specs.Refusals.{refusedBy, refuseIf, orElse};
 ghost use Rattle.record.specs.Faults.{choiceWithin, choiceInOrder, turnWithin, turnInOrder, pairWithin, pairInOrder, kind, high};
@@ -67,6 +68,7 @@ impl ChoiceScan {
     pub(crate) fn choice(&mut self, sizes: Sizes, word: u32, at: u16) -> Result<(), Refusal>
         requires is_a_choice { ⌜ kind word ≡ 2 ⌝ }
         ensures refused_as_told { λ r. ⌜ ((before : List ℕ) → ChoicesSeen (now (self .entry)) before → refusedBy r ≡ orElse (refuseIf (not (choiceWithin (sizes .streams) (sizes .lanes) word)) (3, at)) (refuseIf (not (choiceInOrder before word)) (4, at))) ⌝ }
+        ensures refused_changes_nothing { λ r. ⌜ Cases r (λ _. Unit {0}) (λ _. now (self .exit) ≡ now (self .entry)) ⌝ }
         ensures has_seen_one_more { λ r. ⌜ ((before : List ℕ) → ChoicesSeen (now (self .entry)) before → refusedBy r ≡ None → ChoicesSeen (now (self .exit)) (before ++ word ∷ [])) ⌝ }
     {
         let owner = high_byte(word);
@@ -100,6 +102,7 @@ impl TurnScan {
     pub(crate) fn turn(&mut self, sizes: Sizes, word: u32, at: u16) -> Result<(), Refusal>
         requires is_a_turn { ⌜ kind word ≡ 3 ⌝ }
         ensures refused_as_told { λ r. ⌜ ((before : List ℕ) → TurnsSeen (now (self .entry)) before → refusedBy r ≡ orElse (refuseIf (not (turnWithin (sizes .streams) (sizes .lanes) word)) (3, at)) (refuseIf (not (turnInOrder before)) (4, at))) ⌝ }
+        ensures refused_changes_nothing { λ r. ⌜ Cases r (λ _. Unit {0}) (λ _. now (self .exit) ≡ now (self .entry)) ⌝ }
         ensures has_seen_one_more { λ r. ⌜ ((before : List ℕ) → TurnsSeen (now (self .entry)) before → refusedBy r ≡ None → TurnsSeen (now (self .exit)) (before ++ word ∷ [])) ⌝ }
     {
         if (word >> 8) % 0x10_0000 != 0 || low_byte(word) >= sizes.streams + sizes.lanes {
@@ -135,6 +138,7 @@ impl PairScan {
     pub(crate) fn pair(&mut self, sizes: Sizes, word: u32, at: u16) -> Result<(), Refusal>
         requires is_a_pair { ⌜ kind word ≡ 4 ⌝ }
         ensures refused_as_told { λ r. ⌜ ((before : List ℕ) → PairsSeen (now (self .entry)) before → refusedBy r ≡ orElse (refuseIf (not (pairWithin (sizes .streams) (sizes .lanes) word)) (3, at)) (refuseIf (not (pairInOrder before word)) (4, at))) ⌝ }
+        ensures refused_changes_nothing { λ r. ⌜ Cases r (λ _. Unit {0}) (λ _. now (self .exit) ≡ now (self .entry)) ⌝ }
         ensures has_seen_one_more { λ r. ⌜ ((before : List ℕ) → PairsSeen (now (self .entry)) before → refusedBy r ≡ None → PairsSeen (now (self .exit)) (before ++ word ∷ [])) ⌝ }
     {
         let stream = middle_byte(word) as u16;

@@ -41,7 +41,7 @@ pub fn low_byte(word: u32) -> u8
 }
 
 /// Bits 27 to 0: an end's number.
-pub fn number_in(word: u32) -> u32
+pub(crate) fn number_in(word: u32) -> u32
     ensures is_the_number { λ r. ⌜ r ≡ number word ⌝ }
 {
     word % 0x1000_0000

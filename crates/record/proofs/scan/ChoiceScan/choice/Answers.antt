@@ -19,6 +19,7 @@ returns-then-owner-self c =
           let o = choice-below (c .args .self .now) before (c .args .word) h seen in
           let w = c .if-not-choice-within .ensures tt .is-the-rule in
           sym (ap (λ b. orElse (refuseIf (not b) (3, c .args .at)) (refuseIf (not (choiceInOrder before (c .args .word))) (4, c .args .at))) (sym w) ∙ ap (λ b. refuseIf (not b) (4, c .args .at)) o);
+      refused-changes-nothing = refl;
       has-seen-one-more = λ before seen e. grind arith;
     }
 
@@ -41,6 +42,7 @@ returns c =
           let order = choice-order scan at before word l o seen (kept before seen) in
           sym (ap (λ b. orElse (refuseIf (not b) (3, c .args .at)) (refuseIf (not (choiceInOrder before word)) (4, c .args .at))) w
           ∙ ap (λ b. refuseIf (not b) (4, c .args .at)) (order ∙ ap (λ b. b && not (has (at .named .0) (low word))) place ∙ ap not new));
+      refused-changes-nothing = tt;
       has-seen-one-more = λ before seen e.
           one-more-choice scan at before word (c .insert .last .self) (c .pre .is-a-choice) l o seen (kept before seen)
           (λ j. c .insert .ensures .adds-one j

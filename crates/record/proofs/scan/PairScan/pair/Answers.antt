@@ -16,6 +16,7 @@ returns-then-stream-self c =
     record {
       refused-as-told = λ before seen.
           sym (order-decides _ _ false (3, c .args .at) (4, c .args .at) (sym (c .if-not-pair-within .ensures tt .is-the-rule)) (pair-order scan before word seen ∙ wrong));
+      refused-changes-nothing = refl;
       has-seen-one-more = λ before seen e. grind arith;
     }
   where
@@ -51,6 +52,7 @@ returns c =
     record {
       refused-as-told = λ before seen.
           sym (order-decides _ _ true (3, c .args .at) (4, c .args .at) w (pair-order scan before word seen ∙ right));
+      refused-changes-nothing = tt;
       has-seen-one-more = λ before seen e.
           rw next (one-more-pair scan before word m (c .pre .is-a-pair) above seen
           (λ j. c .insert .ensures .adds-one j

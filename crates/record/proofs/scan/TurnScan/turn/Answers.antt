@@ -18,5 +18,6 @@ returns c =
     record {
       refused-as-told = λ before seen.
           sym (order-decides _ _ true (3, c .args .at) (4, c .args .at) w (turn-order scan before seen ∙ lt-ltb (scan .count) 7600 (omega arith)));
+      refused-changes-nothing = tt;
       has-seen-one-more = λ before seen e. one-more-turn scan before word (c .pre .is-a-turn) seen;
     }
