@@ -2,12 +2,16 @@ use crate::judge::judge;
 use crate::say::TEXT_ROOM;
 use crate::say::judged_text;
 use crate::say::refusal_text;
+use ranking::figures::LaneFigures;
+use ranking::figures::StreamFigures;
 use ranking::finder::Finding;
 use ranking::finder::FindingPartialEq;
 use ranking::finder::find;
 use ranking::interface::Ranking;
 use ranking::listing::ListingRanking;
 use ranking::pairing::check_pairing;
+use ranking::scorer::ScoringRanking;
+use ranking::side::Scoring;
 use ranking::table::Listing;
 use record::refusal::Refusal;
 use record::refusal::RefusalDebug;
@@ -82,6 +86,52 @@ fn listing_is_filled_once() -> Result<(), Fail> {
         Ok(_) => Err(Fail::new("filled twice")),
         Err(refusal) => check(refusal == Refusal::Filled && listing.streams() == 2),
     }
+}
+
+const STREAM: StreamFigures = StreamFigures {
+    rate: 100,
+    wish: 500,
+    reach: 10,
+};
+
+const LANE: LaneFigures = LaneFigures {
+    wear: 489,
+    wish: 100,
+    reach: 0,
+};
+
+// A lane of this wear, which wishes the rate 100.
+fn lane_of(wear: u16) -> LaneFigures {
+    LaneFigures {
+        wear,
+        wish: 100,
+        reach: 0,
+    }
+}
+
+// The ranks of lanes 0 to 4 by the stream, 9 for none.
+const SCORES: [u16; 5] = [9, 161, 2, 163, 9];
+
+#[test]
+fn scoring_ranks_by_distance() -> Result<(), Fail> {
+    let mut scoring = Scoring::new();
+    check(scoring.rank_by_stream(0, 0) == None)?;
+    let lanes = [lane_of(489), lane_of(510), lane_of(500), lane_of(490)];
+    check(scoring.fill(&[STREAM], &lanes) == Ok(()))?;
+    for lane in 0..5u8 {
+        check(scoring.rank_by_stream(0, lane).unwrap_or(9) == SCORES[lane as usize])?;
+    }
+    check(scoring.rank_by_lane(3, 0) == Some(0) && scoring.rank_by_lane(0, 1) == None)?;
+    check(scoring.fill(&[STREAM], &lanes) == Err(Refusal::Filled) && scoring.lanes() == 4)
+}
+
+#[test]
+fn scoring_refuses_figures() -> Result<(), Fail> {
+    let mut scoring = Scoring::new();
+    check(scoring.fill(&[], &[LANE]) == Err(Refusal::Figure(255)))?;
+    check(scoring.fill(&[STREAM], &[LANE; 17]) == Err(Refusal::Figure(255)))?;
+    check(scoring.fill(&[STREAM; 2], &[LANE, lane_of(1024)]) == Err(Refusal::Figure(3)))?;
+    check(scoring.fill(&[STREAM; 16], &[lane_of(1023); 16]) == Ok(()))
 }
 
 #[test]
