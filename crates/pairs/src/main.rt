@@ -9,7 +9,7 @@ use tell::tell;
 
 mod tell;
 
-/// One byte more than the longest record has: enough to refuse a longer input.
+/// One byte more than 8,192 words have: enough to refuse a longer input.
 const MOST_BYTES: u64 = 4 * MOST_WORDS as u64 + 1;
 
 fn main(rt: LibcRuntime) -> Result<(), AnyError> {
