@@ -8,4 +8,4 @@ pub returns : goal.returns
 returns c =
     let a = c.args.self.0 in
     let b = c.args.other.0 in
-    record { says-whether = (λ e. within_from a b (eqb-true _ 0 e), λ f. eq-eqb _ 0 (within_to a b (xor_lt 32 a (bit_and a b) (omega arith) (omega (arith, and_le_l a b))) f)) }
+    record { says_whether = (λ e. within_from a b (eqb-true _ 0 e), λ f. eq-eqb _ 0 (within_to a b (xor_lt 32 a (bit_and a b) (omega arith) (omega (arith, and_le_l a b))) f)) }

@@ -8,9 +8,9 @@ absent : (m k j : ℕ) → has m k ≡ false → has m j ≡ (not (eqb j k) && h
 absent m k j e = grind (arith, nat_tests)
 
 pub returns-then-k-lt32 : goal.returns-then-k-lt32
-returns-then-k-lt32 c = record { takes-one-away = λ j. has_remove c.args.self.now.0 c.args.k j (omega arith) }
+returns-then-k-lt32 c = record { takes_one_away = λ j. has_remove c.args.self.now.0 c.args.k j (omega arith) }
 
 pub returns-else-k-lt32 : goal.returns-else-k-lt32
 returns-else-k-lt32 c =
     let m = c.args.self.now.0 in
-    record { takes-one-away = λ j. absent m c.args.k j (has_above m c.args.k (omega arith) (omega arith)) }
+    record { takes_one_away = λ j. absent m c.args.k j (has_above m c.args.k (omega arith) (omega arith)) }
