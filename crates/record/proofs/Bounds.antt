@@ -1,11 +1,10 @@
 -- The first word and the last.
-use Rattle.std.proofs.Common.{◌≡◌, ℕ, ◌+◌, ◌-◌, ◌/◌, ◌%◌, ◌<◌, ◌≤◌, Bool, true, false, cond, not, ◌&&◌, eqb, ltb, leb, ◌⊎◌, List, [], ◌∷◌, ◌++◌, length, get_or, take, drop, Some, None, Option, sym, refl, ap, ◌∙◌, inl, inr, ⊎_elim, arith}
+use Rattle.std.proofs.Common.{◌≡◌, ℕ, ◌+◌, ◌/◌, ◌%◌, ◌<◌, ◌≤◌, Bool, true, false, not, ◌&&◌, eqb, ltb, leb, List, [], ◌∷◌, length, get_or, take, Some, None, Option, sym, refl, ap, ◌∙◌, ⊎_elim, arith}
 use Rattle.std.proofs.lemmas.List.{take_more, length-take-le}
-use Rattle.std.proofs.lemmas.Bool.{and_parts, and_from, eq-eqb, ne_eqb, lt-ltb, leb-true, le-leb, cases_Bool}
+use Rattle.std.proofs.lemmas.Bool.{and_parts, and_from, eq-eqb, ne_eqb, lt-ltb, leb-true, cases_Bool}
 use Rattle.record.specs.Refusals.{refuse_if, or_else}
 use Rattle.record.specs.Lists.{every, earliest}
-use Rattle.record.specs.Faults.{kind, middle, low, number, allowed, within, in_order, fault_at, by_kind, head_within, choice_within, turn_within, pair_within, choice_in_order, turn_in_order, pair_in_order, end_in_order}
-use Rattle.record.specs.Scans.{KindsBelow}
+use Rattle.record.specs.Faults.{kind, middle, low, number, allowed, fault_at, by_kind, head_within, choice_within, turn_within, pair_within, choice_in_order, turn_in_order, pair_in_order, end_in_order}
 use Rattle.record.specs.Reading.{ReadTo}
 use Rattle.record.proofs.Lists.{earliest_more, earliest_found}
 use Rattle.record.proofs.Passing.{allowed_middle}

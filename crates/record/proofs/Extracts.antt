@@ -1,12 +1,12 @@
 -- What stands in the words of a content: the words of each kind, and what they say.
-use Rattle.std.proofs.Common.{◌≡◌, ℕ, zero, suc, ◌+◌, ◌*◌, ◌<◌, ◌≤◌, Bool, true, false, cond, not, ◌&&◌, eqb, ltb, leb, List, [], ◌∷◌, ◌++◌, map, length, filter, sym, refl, ap, ◌∙◌, ⊎_elim, arith}
+use Rattle.std.proofs.Common.{◌≡◌, ℕ, zero, suc, ◌+◌, ◌<◌, ◌≤◌, Bool, true, eqb, ltb, List, [], ◌∷◌, ◌++◌, map, length, filter, sym, refl, ap, ◌∙◌, ⊎_elim, arith}
 use Rattle.std.specs.List.{AllByRecursion as All}
 use Rattle.std.proofs.lemmas.List.Elements.{filter-append}
 use Rattle.std.proofs.lemmas.List.{append-nil}
 use Rattle.std.proofs.lemmas.Bool.{and_from, eq-eqb, ne_eqb, eqb-true, ltb-true, lt-ltb, cases_order}
-use Rattle.record.specs.Lists.{every, among}
+use Rattle.record.specs.Lists.{every}
 use Rattle.record.specs.Format.{choice_word, turn_word, pair_word, owner_words, choice_words}
-use Rattle.record.specs.Faults.{kind, high, middle, low, pair_of}
+use Rattle.record.specs.Faults.{kind, high, low, pair_of}
 use Rattle.record.proofs.Lists.{every_append, every_weaker, kept_none, kept_all}
 use Rattle.record.proofs.Wording.{kind_choice, high_choice, low_choice, kind_turn, low_turn, kind_pair, middle_pair, low_pair}
 

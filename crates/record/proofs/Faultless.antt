@@ -1,16 +1,16 @@
 -- Words without a fault are the record of the content that they tell.
-use Rattle.std.proofs.Common.{◌≡◌, ℕ, zero, suc, ◌+◌, ◌-◌, ◌*◌, ◌/◌, ◌%◌, ◌<◌, ◌≤◌, Bool, true, false, cond, not, ◌&&◌, ◌||◌, eqb, ltb, leb, ◌⊎◌, List, [], ◌∷◌, ◌++◌, map, length, get_or, take, drop, None, filter, sym, refl, ap, ◌∙◌, subst, inl, inr, ⊎_elim, append_assoc, arith}
+use Rattle.std.proofs.Common.{◌≡◌, ℕ, zero, suc, ◌+◌, ◌-◌, ◌/◌, ◌%◌, ◌<◌, ◌≤◌, Bool, true, false, not, ◌&&◌, eqb, ltb, leb, ◌⊎◌, List, [], ◌∷◌, ◌++◌, map, length, get_or, take, None, filter, sym, refl, ap, ◌∙◌, subst, inl, inr, ⊎_elim, append_assoc, arith}
 use Rattle.std.specs.List.{AllByRecursion as All}
 use Rattle.std.proofs.ByRecursion.{All-push}
 use Rattle.std.proofs.lemmas.List.{append-nil, map_push, length_push, take_more, take_all, length-take-le}
-use Rattle.std.proofs.lemmas.Bool.{and_parts, and_from, lt-ltb, ne_eqb, eq-eqb, eqb-true, eqb-false, ltb-true, leb-true, not-true, cases_order, cases_eq}
+use Rattle.std.proofs.lemmas.Bool.{and_parts, and_from, lt-ltb, ne_eqb, eq-eqb, eqb-true, ltb-true, leb-true, not-true, cases_order, cases_eq}
 use Rattle.record.specs.Refusals.{refuse_if, or_else}
 use Rattle.record.specs.Lists.{every, among, Distinct}
-use Rattle.record.specs.Format.{Content, Lawful, Records, Rising, parties, facing, head_word, choice_word, turn_word, pair_word, end_word, owner_words, choice_words, body_words, record_words}
+use Rattle.record.specs.Format.{Content, Lawful, Records, Rising, facing, head_word, choice_word, turn_word, pair_word, end_word, owner_words, choice_words, body_words}
 use Rattle.record.specs.Faults.{kind, high, middle, low, number, of_kind, ranked_by, turns_in, pairs_in, pair_of, by_kind, head_within, choice_within, turn_within, pair_within, within, choice_in_order, turn_in_order, pair_in_order, end_in_order, in_order, allowed, fault_at}
 use Rattle.record.specs.Scans.{KindsBelow}
 use Rattle.record.proofs.Lists.{every_weaker, distinct_push}
-use Rattle.record.proofs.Scanning.{of_kind_push, of_kind_skip, of_kind_none, ranked_by_push, ranked_by_other, ranked_by_new, turns_in_push, pairs_in_push}
+use Rattle.record.proofs.Scanning.{of_kind_skip, of_kind_none, ranked_by_push, ranked_by_other, ranked_by_new, turns_in_push, pairs_in_push}
 use Rattle.record.proofs.Passing.{allowed_middle}
 use Rattle.record.proofs.Bounds.{head_sizes, allowed_last}
 use Rattle.record.proofs.Wording.{is_head, is_choice, is_turn, is_pair, is_end}

@@ -1,5 +1,5 @@
 -- The words of a lawful content have no fault.
-use Rattle.std.proofs.Common.{◌≡◌, ℕ, zero, suc, ◌+◌, ◌-◌, ◌*◌, ◌/◌, ◌%◌, ◌<◌, ◌≤◌, Bool, true, false, cond, not, ◌&&◌, ◌||◌, eqb, ltb, leb, ◌⊎◌, List, [], ◌∷◌, ◌++◌, map, length, get_or, take, drop, None, filter, sym, refl, ap, ◌∙◌, subst, inl, inr, ⊎_elim, append_assoc, arith}
+use Rattle.std.proofs.Common.{◌≡◌, ℕ, zero, suc, ◌+◌, ◌/◌, ◌%◌, ◌<◌, ◌≤◌, Bool, true, false, cond, not, ◌&&◌, ◌||◌, eqb, ltb, leb, List, [], ◌∷◌, ◌++◌, map, length, get_or, take, drop, None, filter, sym, refl, ap, ◌∙◌, subst, ⊎_elim, append_assoc, arith}
 use Rattle.std.specs.List.{AllByRecursion as All}
 use Rattle.std.proofs.lemmas.List.{append-nil, length-append, length_push, map-append, take_at, take_more, take-append-le, take-append-drop, get_or_append_left, get_or_at}
 use Rattle.std.proofs.lemmas.List.Elements.{filter-append}
@@ -15,8 +15,8 @@ use Rattle.record.proofs.Scanning.{of_kind_push, of_kind_none, ranked_by_push, t
 use Rattle.record.proofs.Passing.{allowed_middle}
 use Rattle.record.proofs.Bounds.{allowed_last}
 use Rattle.record.proofs.Wording.{kind_head, middle_head, low_head, bits_head, kind_choice, high_choice, middle_choice, low_choice, bits_choice, kind_turn, low_turn, bits_turn, kind_pair, middle_pair, low_pair, bits_pair, kind_end, number_end}
-use Rattle.record.proofs.Extracts.{choice_kinds, choice_owners, turn_kinds, pair_kinds, turn_lows}
-use Rattle.record.proofs.Contents.{few_ranked, ranked_bytes, few_parties, turn_bytes, pair_bytes, few_words, only_same, kinds_choices, content_choices, content_ranked}
+use Rattle.record.proofs.Extracts.{choice_kinds, choice_owners, turn_kinds}
+use Rattle.record.proofs.Contents.{few_ranked, ranked_bytes, few_parties, turn_bytes, few_words, only_same, kinds_choices, content_choices, content_ranked}
 
 -- A word keeps every rule after those before it.
 abbrev Fine : (s g : ℕ) → List ℕ → ℕ → Type 0

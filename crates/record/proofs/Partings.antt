@@ -1,11 +1,11 @@
 -- The parts that a reader comes to are the parts of the content.
-use Rattle.std.proofs.Common.{◌≡◌, ℕ, ◌+◌, ◌-◌, ◌<◌, ◌≤◌, Bool, true, false, eqb, List, [], ◌∷◌, ◌++◌, map, length, get_or, take, drop, None, sym, refl, ap, ◌∙◌, subst, append_assoc, arith, take-add}
+use Rattle.std.proofs.Common.{◌≡◌, ℕ, ◌+◌, ◌-◌, ◌<◌, ◌≤◌, List, [], ◌∷◌, ◌++◌, length, get_or, take, drop, None, sym, refl, ap, ◌∙◌, arith, take-add}
 use Rattle.std.specs.List.{between}
 use Rattle.std.proofs.lemmas.List.Edits.{between_more, length-between}
 use Rattle.std.proofs.lemmas.List.{drop-drop, drop_more, take_all, length-take-le}
 use Rattle.std.proofs.lemmas.Bool.{eqb-true, eq-eqb}
-use Rattle.record.specs.Lists.{every, earliest}
-use Rattle.record.specs.Format.{Content, Lawful, Records, parties, turn_word, pair_word, choice_words, record_words}
+use Rattle.record.specs.Lists.{earliest}
+use Rattle.record.specs.Format.{Content, Records, record_words}
 use Rattle.record.specs.Faults.{kind, middle, low, of_kind, fault_at, allowed}
 use Rattle.record.specs.Reading.{PartRead, PartsOf}
 use Rattle.record.proofs.Lists.{earliest_none}

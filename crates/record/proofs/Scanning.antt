@@ -1,12 +1,12 @@
 -- The words of each kind when one more word comes, and what a reader then keeps of them.
-use Rattle.std.proofs.Common.{◌≡◌, ℕ, ◌+◌, ◌*◌, ◌/◌, ◌%◌, ◌<◌, ◌≤◌, Bool, true, false, cond, not, ◌&&◌, ◌||◌, eqb, ltb, leb, List, [], ◌∷◌, ◌++◌, map, length, filter, sym, refl, ap, ◌∙◌, ⊎_elim, arith}
+use Rattle.std.proofs.Common.{◌≡◌, ℕ, ◌+◌, ◌/◌, ◌%◌, ◌<◌, ◌≤◌, Bool, true, false, cond, not, ◌&&◌, ◌||◌, eqb, ltb, leb, List, [], ◌∷◌, ◌++◌, map, length, filter, sym, ap, ◌∙◌, arith}
 use Rattle.std.proofs.lemmas.List.Elements.{filter-append}
 use Rattle.std.proofs.lemmas.List.{append-nil, map_push, length_push}
 use Rattle.std.proofs.lemmas.Bool.{and_parts, eq-eqb, ne_eqb, leb-true, ltb-true, le-leb, lt-leb}
 use Rattle.std.proofs.lemmas.Bool.Decides.{nat_tests}
 use Rattle.record.specs.Refusals.{refuse_if, or_else}
 use Rattle.record.specs.Lists.{every, among}
-use Rattle.record.specs.Faults.{kind, high, middle, low, of_kind, ranked_by, turns_in, pairs_in, pair_of, choice_within, choice_in_order, turn_within, turn_in_order, pair_within, pair_in_order}
+use Rattle.record.specs.Faults.{kind, high, middle, low, of_kind, ranked_by, turns_in, pairs_in, pair_of, choice_within, choice_in_order, turn_in_order, pair_within, pair_in_order}
 use Rattle.record.specs.Format.{facing}
 use Rattle.record.specs.Sets.{has}
 use Rattle.record.specs.Scans.{KindsBelow, OwnerSeen, ChoicesSeen, TurnsSeen, PairsSeen}

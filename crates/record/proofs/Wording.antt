@@ -1,5 +1,5 @@
 -- What the fields of a word that was built are, and that a word without unnamed bits is the one built from its fields.
-use Rattle.std.proofs.Common.{◌≡◌, ℕ, ◌+◌, ◌*◌, ◌/◌, ◌%◌, ◌<◌, ◌≤◌, Bool, true, false, cond, ◌&&◌, List, [], ◌∷◌, ◌++◌, map, sym, refl, ap, ◌∙◌, arith}
+use Rattle.std.proofs.Common.{◌≡◌, ℕ, ◌/◌, ◌%◌, ◌<◌, arith}
 use Rattle.std.proofs.lemmas.Nat.{shr-shr}
 use Rattle.record.specs.Format.{head_word, choice_word, turn_word, pair_word, end_word}
 use Rattle.record.specs.Faults.{kind, high, middle, low, number, pair_of}

@@ -1,5 +1,5 @@
 -- What makes a word faulty in its place, and which fault decides. The rules speak of the words that stand before.
-use Rattle.std.specs.Prelude.{◌≡◌, ℕ, ◌+◌, ◌*◌, ◌/◌, ◌%◌, ◌<◌, ◌≤◌, Bool, true, false, cond, not, ◌&&◌, ltb, leb, List, [], ◌∷◌, ◌++◌, map, length, take, filter, Option, ◌==◌, nat_eq, nat_le, nat_lt, slice_index}
+use Rattle.std.specs.Prelude.{ℕ, ◌+◌, ◌/◌, ◌%◌, Bool, true, cond, not, ◌&&◌, ltb, leb, List, [], ◌∷◌, map, length, take, filter, Option, ◌==◌, nat_eq, nat_le, nat_lt, slice_index}
 use Rattle.record.specs.Refusals.{refuse_if, or_else}
 use Rattle.record.specs.Lists.{every, among, earliest}
 use Rattle.record.specs.Bytes.{lawful_length}

@@ -1,5 +1,5 @@
 -- How far a reader has come, and what the parts of a record are.
-use Rattle.std.specs.Prelude.{◌≡◌, ℕ, ◌+◌, ◌<◌, ◌≤◌, Bool, true, false, List, map, length, take, None, nat_eq, slice_index}
+use Rattle.std.specs.Prelude.{◌≡◌, ℕ, ◌+◌, ◌<◌, ◌≤◌, true, false, List, map, length, take, None, nat_eq, slice_index}
 use Rattle.std.specs.List.{between}
 use Rattle.record.specs.Lists.{every, earliest}
 use Rattle.record.specs.Format.{Content, choice_words, parties, turn_word, pair_word}

@@ -1,4 +1,5 @@
 //! The archive record: refusals, bytes to words, and reading a record into its parts.
+#![tactic(auto)]
 
 pub mod bytes;
 mod members;

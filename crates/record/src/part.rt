@@ -80,10 +80,10 @@ pub(crate) fn read_part<S: Scan + Drop>(
 ) -> Result<usize, Refusal>
     requires few { length words.now ≤ 8192 }
     requires sizes_of_the_head { (sizes.streams ≡ middle (slice_index words.now 0)) × (sizes.lanes ≡ low (slice_index words.now 0)) }
-    requires a_middle_kind { (2 ≤ scans scan) × (scans scan ≤ 4) }
-    requires read_so_far { ReadTo words.now (scans scan) from }
-    requires seen_so_far { sees scan (take from words.now) }
-    ensures part_or_first_fault { MatchResult result (λ n. PartRead words.now (scans scan) from n) (λ f. earliest (fault_at words.now) (length words.now) ≡ Some (code_of f)) }
+    requires a_middle_kind { (2 ≤ S.scans scan) × (S.scans scan ≤ 4) }
+    requires read_so_far { ReadTo words.now (S.scans scan) from }
+    requires seen_so_far { S.sees scan (take from words.now) }
+    ensures part_or_first_fault { MatchResult result (λ n. PartRead words.now (S.scans scan) from n) (λ f. earliest (fault_at words.now) (length words.now) ≡ Some (code_of f)) }
 {
     let last = words.len() - 1;
     let kind = scan.kind();

@@ -1,4 +1,4 @@
-use Rattle.std.proofs.Common.{◌≡◌, ℕ, true, is_ok, None, Ok, Err, Result, sym, ap, ◌∙◌}
+use Rattle.std.proofs.Common.{◌≡◌, true, is_ok, None, Ok, Err, Result, ◌∙◌}
 use Rattle.record.specs.Refusals.{refused_by}
 use Rattle.record.specs.declared.refusal.Refusal.{Refusal}
 use Rattle.record.proofs.Contents.{one_content, one_record}
@@ -12,11 +12,11 @@ not_refused (Err f) e = grind native.Mathlib.Omega.arith
 
 pub returns : goal.returns
 returns c =
-    let answer = c.read-parts.ensures in
+    let answer = c.read_parts.ensures in
     record {
-      refused-as-told = answer.refused-as-told;
-      parts-of-the-content = answer.parts-of-the-content;
-      reads-every-record = λ d r. not_refused c.read-parts.result (answer.refused-as-told ∙ record_faultless c.args.words.now d r);
-      one-content-a-record = one_content;
-      one-record-a-content = one_record;
+      refused_as_told = answer.refused_as_told;
+      parts_of_the_content = answer.parts_of_the_content;
+      reads_every_record = λ d r. not_refused c.read_parts.result (answer.refused_as_told ∙ record_faultless c.args.words.now d r);
+      one_content_a_record = one_content;
+      one_record_a_content = one_record;
     }

@@ -1,4 +1,4 @@
-use Rattle.std.proofs.Common.{◌≡◌, ℕ, ◌<◌, ◌≤◌, Bool, true, false, not, ◌&&◌, ◌||◌, eqb, ltb, None, sym, refl, ap, ◌∙◌, arith}
+use Rattle.std.proofs.Common.{◌≡◌, ◌<◌, ◌≤◌, true, false, not, ◌&&◌, ◌||◌, eqb, sym, refl, ap, ◌∙◌, arith}
 use Rattle.std.proofs.lemmas.Bool.{lt-ltb, eq-eqb}
 use Rattle.record.specs.Refusals.{refuse_if, or_else}
 use Rattle.record.specs.Sets.{has}
@@ -10,12 +10,12 @@ pub returns-then-owner-self : goal.returns-then-owner-self
 returns-then-owner-self c =
     let h : high c.args.word < c.args.self.now.owner = omega arith in
     record {
-      refused-as-told = λ before seen.
+      refused_as_told = λ before seen.
           let o = choice_below c.args.self.now before c.args.word h seen in
-          let w = c.if-not-choice-within.ensures.is-the-rule in
+          let w = c.if-not-choice_within.ensures.is_the_rule in
           sym (ap (λ b. or_else (refuse_if (not b) (3, c.args.at)) (refuse_if (not (choice_in_order before c.args.word)) (4, c.args.at))) (sym w) ∙ ap (λ b. refuse_if (not b) (4, c.args.at)) o);
-      refused-changes-nothing = refl;
-      has-seen-one-more = λ before seen e. grind arith;
+      refused_changes_nothing = refl;
+      has_seen_one_more = λ before seen e. grind arith;
     }
 
 pub returns : goal.returns
@@ -23,24 +23,24 @@ returns c =
     let word = c.args.word in
     let sizes = c.args.sizes in
     let scan = c.args.self.now in
-    let at = c.at-owner-scan.result in
+    let at = c.at_owner-scan.result in
     let l : scan.owner ≤ high word = omega arith in
-    let o : at.owner ≡ high word = c.at-owner-scan.ensures.is-the-owner ∙ c.high-byte-owner.ensures.is-the-high-byte in
-    let w : choice_within sizes.streams sizes.lanes word ≡ true = sym c.if-not-choice-within.ensures.is-the-rule in
-    let q : c.low-byte-ranked.result ≡ low word = c.low-byte-ranked.ensures.is-the-low-byte in
-    let few : c.low-byte-ranked.result < 16 = omega (arith, choice_small sizes.streams sizes.lanes word (omega arith) (omega arith) w) in
+    let o : at.owner ≡ high word = c.at_owner-scan.ensures.is_the_owner ∙ c.high_byte-owner.ensures.is_the_high_byte in
+    let w : choice_within sizes.streams sizes.lanes word ≡ true = sym c.if-not-choice_within.ensures.is_the_rule in
+    let q : c.low_byte-ranked.result ≡ low word = c.low_byte-ranked.ensures.is_the_low_byte in
+    let few : c.low_byte-ranked.result < 16 = omega (arith, choice_small sizes.streams sizes.lanes word (omega arith) (omega arith) w) in
     let place : eqb (middle word) at.next ≡ true = eq-eqb (middle word) at.next (omega arith) in
-    let new : has at.named.0 (low word) ≡ false = ap (has at.named.0) (sym q) ∙ sym c.if-contains.ensures.is-membership in
-    let kept = c.at-owner-scan.ensures.keeps-what-was-seen in
+    let new : has at.named.0 (low word) ≡ false = ap (has at.named.0) (sym q) ∙ sym c.if-contains.ensures.is_membership in
+    let kept = c.at_owner-scan.ensures.keeps_what_was_seen in
     record {
-      refused-as-told = λ before seen.
+      refused_as_told = λ before seen.
           let order = choice_order scan at before word l o seen (kept before seen) in
           sym (ap (λ b. or_else (refuse_if (not b) (3, c.args.at)) (refuse_if (not (choice_in_order before word)) (4, c.args.at))) w
           ∙ ap (λ b. refuse_if (not b) (4, c.args.at)) (order ∙ ap (λ b. b && not (has at.named.0 (low word))) place ∙ ap not new));
-      refused-changes-nothing = tt;
-      has-seen-one-more = λ before seen e.
-          one_more_choice scan at before word c.insert.new.self c.requires.is-a-choice l o seen (kept before seen)
+      refused_changes_nothing = tt;
+      has_seen_one_more = λ before seen e.
+          one_more_choice scan at before word c.insert.new.self c.requires.is_a_choice l o seen (kept before seen)
           (λ j. c.insert.ensures.adds_one j
-          ∙ ap (λ b. b && eqb j c.low-byte-ranked.result || has at.named.0 j) (lt-ltb c.low-byte-ranked.result 16 few)
+          ∙ ap (λ b. b && eqb j c.low_byte-ranked.result || has at.named.0 j) (lt-ltb c.low_byte-ranked.result 16 few)
           ∙ ap (λ x. eqb j x || has at.named.0 j) q);
     }

@@ -1,6 +1,6 @@
-use Rattle.std.proofs.Common.{◌≡◌, ℕ, ◌+◌, ◌/◌, ◌%◌, ◌<◌, Bool, true, ◌&&◌, eqb, ltb, sym, ◌∙◌, arith}
+use Rattle.std.proofs.Common.{◌≡◌, ◌+◌, ◌/◌, ◌%◌, true, eqb, ltb, sym, ◌∙◌, arith}
 use Rattle.std.proofs.lemmas.Bool.{lt-ltb, eq-eqb, and_from}
-use Rattle.record.specs.Faults.{low, turn_within, turn_in_order}
+use Rattle.record.specs.Faults.{low, turn_within}
 use Rattle.record.proofs.Scanning.{turn_order, one_more_turn, order_decides}
 use Rattle.record.proofs.scan.TurnScan.turn.Goals as goal
 
@@ -12,8 +12,8 @@ returns c =
     let w : turn_within sizes.streams sizes.lanes word ≡ true =
     and_from (eqb (word / 256 % 0x100000) 0) (ltb (low word) (sizes.streams + sizes.lanes)) (eq-eqb (word / 256 % 0x100000) 0 (omega arith)) (lt-ltb (low word) (sizes.streams + sizes.lanes) (omega arith)) in
     record {
-      refused-as-told = λ before seen.
+      refused_as_told = λ before seen.
           sym (order_decides _ _ true (3, c.args.at) (4, c.args.at) w (turn_order scan before seen ∙ lt-ltb scan.count 7600 (omega arith)));
-      refused-changes-nothing = tt;
-      has-seen-one-more = λ before seen e. one_more_turn scan before word c.requires.is-a-turn seen;
+      refused_changes_nothing = tt;
+      has_seen_one_more = λ before seen e. one_more_turn scan before word c.requires.is_a_turn seen;
     }
