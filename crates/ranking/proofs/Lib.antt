@@ -4,3 +4,4 @@ pub mod Markets
 pub mod Blocking
 pub mod Findings
 pub mod Scores
+pub mod Tables

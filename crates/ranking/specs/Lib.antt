@@ -5,4 +5,4 @@ pub mod Pairings
 pub mod Places
 pub mod Scorings
 pub mod Stability
-pub mod Tables
+pub mod TableLaws

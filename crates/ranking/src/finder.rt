@@ -32,15 +32,15 @@ pub fn is_better(first: Option<u16>, second: Option<u16>) -> bool
 
 // Whether a stream and a lane rank each other.
 fn rank_each_other<R: Ranking>(ranking: &R, stream: u8, lane: u8) -> bool
-    ensures each_ranks_the_other { result ≡ (is_some ((meaning ranking.now).by_stream stream lane) && is_some ((meaning ranking.now).by_lane lane stream)) }
+    ensures each_ranks_the_other { result ≡ (is_some ((R.meaning ranking.now).by_stream stream lane) && is_some ((R.meaning ranking.now).by_lane lane stream)) }
 {
     ranking.rank_by_stream(stream, lane).is_some() && ranking.rank_by_lane(lane, stream).is_some()
 }
 
 // The lowest stream that holds a lane where one of the two does not rank the other.
 fn first_unranked<R: Ranking>(ranking: &R, pairing: &[u8]) -> Option<u8>
-    requires not_refused { pairing_fault (market_of (meaning ranking.now)) pairing.now ≡ None }
-    ensures is_the_first_unranked { let m = market_of (meaning ranking.now) in let h = holding_of m pairing.now in MatchOption result (RankedBelow m h m.streams) (FirstUnranked m h) }
+    requires not_refused { pairing_fault (market_of (R.meaning ranking.now)) pairing.now ≡ None }
+    ensures is_the_first_unranked { let m = market_of (R.meaning ranking.now) in let h = holding_of m pairing.now in MatchOption result (RankedBelow m h m.streams) (FirstUnranked m h) }
 {
     let streams = ranking.streams();
     let lanes = ranking.lanes();
@@ -62,7 +62,7 @@ fn want_each_other<R: Ranking>(
     held: Option<u16>,
     lane_has: u8,
 ) -> bool
-    ensures each_prefers_the_other { result ≡ (prefers ((meaning ranking.now).by_stream stream lane) held && prefers ((meaning ranking.now).by_lane lane stream) ((meaning ranking.now).by_lane lane lane_has)) }
+    ensures each_prefers_the_other { result ≡ (prefers ((R.meaning ranking.now).by_stream stream lane) held && prefers ((R.meaning ranking.now).by_lane lane stream) ((R.meaning ranking.now).by_lane lane lane_has)) }
 {
     is_better(ranking.rank_by_stream(stream, lane), held)
         && is_better(
@@ -78,9 +78,9 @@ fn first_blocking<R: Ranking>(
     pairing: &[u8],
     table: &[u8; MOST_LANES],
 ) -> Option<(u8, u8)>
-    requires not_refused { pairing_fault (market_of (meaning ranking.now)) pairing.now ≡ None }
+    requires not_refused { pairing_fault (market_of (R.meaning ranking.now)) pairing.now ≡ None }
     requires table_as_told { TableOf pairing.now table.now }
-    ensures is_the_first_blocking { let m = market_of (meaning ranking.now) in let h = holding_of m pairing.now in MatchOption result (UnblockedBelow m h m.streams) (λ p. FirstBlocking m h p.0 p.1) }
+    ensures is_the_first_blocking { let m = market_of (R.meaning ranking.now) in let h = holding_of m pairing.now in MatchOption result (UnblockedBelow m h m.streams) (λ p. FirstBlocking m h p.0 p.1) }
 {
     let streams = ranking.streams();
     let lanes = ranking.lanes();
@@ -100,9 +100,9 @@ fn first_blocking<R: Ranking>(
 /// Finds whether a pairing is stable under a ranking, and if not the first reason.
 /// Refuses 8 where the list is no pairing of the ranking's streams and lanes.
 pub fn find<R: Ranking>(ranking: &R, pairing: &[u8]) -> Result<Finding, Refusal>
-    ensures refused_as_told { refused_by result ≡ pairing_fault (market_of (meaning ranking.now)) pairing.now }
-    ensures found_as_told { let m = market_of (meaning ranking.now) in IfOk result (Found m (holding_of m pairing.now)) }
-    ensures stable_exactly_when { let m = market_of (meaning ranking.now) in (result ≡ Ok Finding.Stable ↔ (pairing_fault m pairing.now ≡ None) × Stable m (holding_of m pairing.now)) }
+    ensures refused_as_told { refused_by result ≡ pairing_fault (market_of (R.meaning ranking.now)) pairing.now }
+    ensures found_as_told { let m = market_of (R.meaning ranking.now) in IfOk result (Found m (holding_of m pairing.now)) }
+    ensures stable_exactly_when { let m = market_of (R.meaning ranking.now) in (result ≡ Ok Finding.Stable ↔ (pairing_fault m pairing.now ≡ None) × Stable m (holding_of m pairing.now)) }
 {
     let table = lane_streams(ranking, pairing)?;
     if let Some(stream) = first_unranked(ranking, pairing) {

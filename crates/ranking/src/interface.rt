@@ -34,7 +34,7 @@ pub trait Ranking {
 
 /// The rank that a party gives another, by party numbers: stream i is party i, and lane j is party s + j.
 pub fn rank_between<R: Ranking>(ranking: &R, party: u8, other: u8) -> Option<u16>
-    ensures is_the_rank { result ≡ (market_of (meaning ranking.now)).rank party other }
+    ensures is_the_rank { result ≡ (market_of (R.meaning ranking.now)).rank party other }
 {
     let streams = ranking.streams();
     if party < streams && streams <= other {

@@ -4,8 +4,7 @@ ghost use Rattle.record.specs.Format.{Content, Records};
 ghost use Rattle.record.specs.Reading.{PartsOf};
 ghost use Rattle.ranking.specs.Places.{place_at, Enterable, Entered};
 ghost use Rattle.ranking.specs.Listings.{listed, unlisted, content_meaning, fill_fault};
-ghost use Rattle.ranking.specs.Tables.{table_strict};
-ghost use Rattle.std.proofs.Common.{rules, arith};
+ghost use Rattle.ranking.specs.TableLaws.{table_strict, table_bounded};
 
 use crate::interface::Ranking;
 use crate::table::{Listing, TABLE};
@@ -85,9 +84,9 @@ fn place_in(places: &[u8; TABLE], row: u8, ranked: u8) -> Option<u16>
 impl Ranking for Listing {
     ghost meaning = { listed };
 
-    ghost sized = { first_of (Prim.search rules, Prim.grind (arith, Self.row.coded.inj)) };
+    ghost sized = { λ x. x.sizes };
 
-    ghost bounded = { first_of (Prim.search rules, Prim.grind (arith, Self.row.coded.inj)) };
+    ghost bounded = { λ x. (table_bounded x.places x.streams x.lanes (λ i. i), table_bounded x.places x.lanes x.streams (λ j. x.streams + j)) };
 
     ghost strict = { λ x. (table_strict x.places x.streams x.lanes (λ i. i) x.sizes.3 x.strict, table_strict x.places x.lanes x.streams (λ j. x.streams + j) x.sizes.1 x.strict) };
 

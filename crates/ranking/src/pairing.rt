@@ -21,7 +21,7 @@ pub(crate) fn lane_streams<R: Ranking>(
     ranking: &R,
     pairing: &[u8],
 ) -> Result<[u8; MOST_LANES], Refusal>
-    ensures refused_as_told { refused_by result ≡ pairing_fault (market_of (meaning ranking.now)) pairing.now }
+    ensures refused_as_told { refused_by result ≡ pairing_fault (market_of (R.meaning ranking.now)) pairing.now }
     ensures table_as_told { IfOk result (TableOf pairing.now) }
 {
     let streams = ranking.streams();
@@ -46,7 +46,7 @@ pub(crate) fn lane_streams<R: Ranking>(
 
 /// Refuses 8 where the list is no pairing of the ranking's streams and lanes.
 pub fn check_pairing<R: Ranking>(ranking: &R, pairing: &[u8]) -> Result<(), Refusal>
-    ensures refused_as_told { refused_by result ≡ pairing_fault (market_of (meaning ranking.now)) pairing.now }
+    ensures refused_as_told { refused_by result ≡ pairing_fault (market_of (R.meaning ranking.now)) pairing.now }
 {
     lane_streams(ranking, pairing)?;
     Ok(())

@@ -16,8 +16,8 @@ pub const MOST_FIGURE: u16 = 1023;
 // The figures of one side, read field by field. `first` is its first party's number.
 fn side_of<F: Figures>(records: &[F], first: u8) -> Result<Side, Refusal>
     requires few { (1 ≤ length records.now) × (length records.now ≤ 16) × (first ≤ 16) }
-    ensures refused_as_told { refused_by result ≡ side_fault first (map figured records.now) }
-    ensures figures_as_given { IfOk result (λ x. SideOf x (map figured records.now)) }
+    ensures refused_as_told { refused_by result ≡ side_fault first (map F.figured records.now) }
+    ensures figures_as_given { IfOk result (λ x. SideOf x (map F.figured records.now)) }
 {
     let mut own = [0u16; 16];
     let mut wish = [0u16; 16];

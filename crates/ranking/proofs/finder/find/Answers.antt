@@ -16,12 +16,12 @@ returns-in-None g c =
     let bytes = c.args.pairing.now in
     let met = g.met.R.Ranking in
     let lawful = lawful_market x (met.sized c.args.ranking.now) (met.bounded c.args.ranking.now) (met.strict c.args.ranking.now) in
-    let fine = c.in-ok-table.ensures.refused-as-told in
+    let fine = c.in_ok-table.ensures.refused_as_told in
     let stable : Stable m (holding_of m bytes) =
     stable_pairing m bytes lawful (lawful_from_fault m bytes (sym {a = None} {b = pairing_fault m bytes} fine))
-    c.in-default.ensures.is-the-first-unranked c.in-None.ensures.is-the-first-blocking in
+    c.in_default.ensures.is_the_first_unranked c.in-None.ensures.is_the_first_blocking in
     record {
-      refused-as-told = fine;
-      found-as-told = stable;
-      stable-exactly-when = stable_answer m (holding_of m bytes) (pairing_fault m bytes) (Ok Finding.Stable) fine stable;
+      refused_as_told = fine;
+      found_as_told = stable;
+      stable_exactly_when = stable_answer m (holding_of m bytes) (pairing_fault m bytes) (Ok Finding.Stable) fine stable;
     }

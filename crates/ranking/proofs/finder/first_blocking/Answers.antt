@@ -16,10 +16,10 @@ loop-lane-preserved g c =
     let j = c.loop-lane.lane in
     let Clear : ℕ → Type 0 = λ l. blocks m (holding_of m bytes) i (x.streams + l) ≡ false in
     let here : Clear j =
-    pair_tested x bytes c.args.table.now i j c.rank-by-stream-held.result c.want-each-other.result
-    (g.met.R.Ranking.sized ranking) (g.met.R.Ranking.bounded ranking) (lawful_from_fault m bytes c.requires.not_refused) c.requires.table-as-told
-    (omega arith) (omega arith) c.rank-by-stream-held.ensures.is-the-streams-rank c.want-each-other.ensures.each-prefers-the-other
-    ∙ c.if-want-each-other.false in
+    pair_tested x bytes c.args.table.now i j c.rank_by_stream-held.result c.want_each_other.result
+    (g.met.R.Ranking.sized ranking) (g.met.R.Ranking.bounded ranking) (lawful_from_fault m bytes c.requires.not_refused) c.requires.table_as_told
+    (omega arith) (omega arith) c.rank_by_stream-held.ensures.is_the_streams_rank c.want_each_other.ensures.each_prefers_the_other
+    ∙ c.if-want_each_other.false in
     (c.loop-lane.invariant.0, below_more Clear j c.loop-lane.invariant.1 here)
 
 pub search-preserved : goal.search-preserved
@@ -29,20 +29,20 @@ search-preserved g c =
       unblocked_more m (holding_of m c.args.pairing.now) c.search.stream c.loop-lane.lane (omega arith) c.search.invariant.1 c.loop-lane.invariant.1,
     )
 
-pub returns-then-want-each-other : goal.returns-then-want-each-other
-returns-then-want-each-other g c =
+pub returns-then-want_each_other : goal.returns-then-want_each_other
+returns-then-want_each_other g c =
     let ranking = c.args.ranking.now in
     let x = g.R.Ranking.meaning ranking in
     let bytes = c.args.pairing.now in
     record {
-      is-the-first-blocking = record {
+      is_the_first_blocking = record {
         stream = omega arith;
         lane = omega arith;
         blocking =
-            pair_tested x bytes c.args.table.now c.search.stream c.loop-lane.lane c.rank-by-stream-held.result c.want-each-other.result
-            (g.met.R.Ranking.sized ranking) (g.met.R.Ranking.bounded ranking) (lawful_from_fault (market_of x) bytes c.requires.not_refused) c.requires.table-as-told
-            (omega arith) (omega arith) c.rank-by-stream-held.ensures.is-the-streams-rank c.want-each-other.ensures.each-prefers-the-other
-            ∙ c.if-want-each-other.true;
+            pair_tested x bytes c.args.table.now c.search.stream c.loop-lane.lane c.rank_by_stream-held.result c.want_each_other.result
+            (g.met.R.Ranking.sized ranking) (g.met.R.Ranking.bounded ranking) (lawful_from_fault (market_of x) bytes c.requires.not_refused) c.requires.table_as_told
+            (omega arith) (omega arith) c.rank_by_stream-held.ensures.is_the_streams_rank c.want_each_other.ensures.each_prefers_the_other
+            ∙ c.if-want_each_other.true;
         above = c.search.invariant.1;
         before = c.loop-lane.invariant.1;
       };

@@ -16,7 +16,7 @@ returns-then-table-lane g c =
     let table = c.loop-stream.table in
     let lane = get_or bytes i 0 in
     let wrong : wrong_at m bytes i ≡ true = wrong_lane m bytes i (omega arith) ∙ table_among (take i bytes) table lane c.loop-stream.invariant.1 (omega arith) ∙ ap not (ne_eqb (get_or table lane 0) 255 c.if-table-lane.true) in
-    record { refused-as-told = sym (fault_at_lem m bytes i (omega arith) (omega arith) c.loop-stream.invariant.0 wrong); table-as-told = tt }
+    record { refused_as_told = sym (fault_at_lem m bytes i (omega arith) (omega arith) c.loop-stream.invariant.0 wrong); table_as_told = tt }
 
 pub returns-then-lane : goal.returns-then-lane
 returns-then-lane g c =
@@ -24,7 +24,7 @@ returns-then-lane g c =
     let bytes = c.args.pairing.now in
     let i = c.loop-stream.stream in
     let wrong : wrong_at m bytes i ≡ true = wrong_none m bytes i (omega arith) ∙ ap not (ne_eqb (get_or bytes i 0) 255 c.if-lane.true) in
-    record { refused-as-told = sym (fault_at_lem m bytes i (omega arith) (omega arith) c.loop-stream.invariant.0 wrong); table-as-told = tt }
+    record { refused_as_told = sym (fault_at_lem m bytes i (omega arith) (omega arith) c.loop-stream.invariant.0 wrong); table_as_told = tt }
 
 pub loop-stream-preserved : goal.loop-stream-preserved
 loop-stream-preserved g c =
@@ -49,6 +49,6 @@ returns g c =
     let none = c.loop-stream.invariant.0 in
     let right = c.loop-stream.invariant.1 in
     record {
-      refused-as-told = sym (fault_none m bytes (omega arith) (rw e at none));
-      table-as-told = rw (take_all c.loop-stream.stream bytes (omega arith)) at right;
+      refused_as_told = sym (fault_none m bytes (omega arith) (rw e at none));
+      table_as_told = rw (take_all c.loop-stream.stream bytes (omega arith)) at right;
     }

@@ -8,24 +8,24 @@ use Rattle.ranking.specs.declared.figures.LaneFigures.{LaneFigures}
 use Rattle.ranking.specs.Scorings.{stream_figured, lane_figured}
 use Rattle.ranking.proofs.Scores.{lists_by_length}
 use Rattle.ranking.proofs.scorer.sides_of.Goals as goal
-use Rattle.ranking.proofs.scorer.sides_of.Goals.{then-not-some-figures-via-then-not-some-figures, then-not-some-figures-via-else-not-some-figures+then-not-some-figures-2}
+use Rattle.ranking.proofs.scorer.sides_of.Goals.{then-not-some_figures-via-then-not-some_figures, then-not-some_figures-via-else-not-some_figures+then-not-some_figures-2}
 
 -- a list of records is as long as the list of their figures
 as_long : {X : Type 0} (f : X → Figured) (xs : List X) (b : Bool) → some_figures (length xs) ≡ b → some_figures (length (map f xs)) ≡ b
 as_long f xs b e = ap some_figures (length-map xs f) ∙ e
 
-pub returns-then-not-some-figures : goal.returns-then-not-some-figures
-returns-then-not-some-figures c =
+pub returns-then-not-some_figures : goal.returns-then-not-some_figures
+returns-then-not-some_figures c =
     let ss = c.args.streams.now in
     let ls = c.args.lanes.now in
     record {
-      refused-as-told = elim c.then-not-some-figures.branch [
-        | then-not-some-figures-via-then-not-some-figures w ↦
-            sym (lists_by_length (map stream_figured ss) (map lane_figured ls) false (some_figures (length (map lane_figured ls))) (as_long stream_figured ss false (sym w.if-not-some-figures.ensures.is-the-rule)) refl)
-        | then-not-some-figures-via-else-not-some-figures+then-not-some-figures-2 w ↦
-            sym (lists_by_length (map stream_figured ss) (map lane_figured ls) true false (as_long stream_figured ss true (sym w.if-not-some-figures.ensures.is-the-rule)) (as_long lane_figured ls false (sym w.if-not-some-figures-2.ensures.is-the-rule)))
+      refused_as_told = elim c.then-not-some_figures.branch [
+        | then-not-some_figures-via-then-not-some_figures w ↦
+            sym (lists_by_length (map stream_figured ss) (map lane_figured ls) false (some_figures (length (map lane_figured ls))) (as_long stream_figured ss false (sym w.if-not-some_figures.ensures.is_the_rule)) refl)
+        | then-not-some_figures-via-else-not-some_figures+then-not-some_figures-2 w ↦
+            sym (lists_by_length (map stream_figured ss) (map lane_figured ls) true false (as_long stream_figured ss true (sym w.if-not-some_figures.ensures.is_the_rule)) (as_long lane_figured ls false (sym w.if-not-some_figures-2.ensures.is_the_rule)))
       ];
-      figures-as-given = tt;
+      figures_as_given = tt;
     }
 
 -- of two lists of lawful lengths the sides decide, streams first
@@ -36,28 +36,28 @@ by_sides ss ls a b es el ea eb =
     ∙ ap (or_else (side_fault 0 (map stream_figured ss))) (eb ∙ ap (λ n. side_fault n (map lane_figured ls)) (sym (length-map ss stream_figured)))
     ∙ sym (lists_by_length (map stream_figured ss) (map lane_figured ls) true true (as_long stream_figured ss true (sym es)) (as_long lane_figured ls true (sym el)))
 
-pub returns-in-err-stream-side : goal.returns-in-err-stream-side
-returns-in-err-stream-side c =
-    let p = err_from_is_err_and c.from-residual.result c.from-residual.ensures.1 in
+pub returns-in_err-stream_side : goal.returns-in_err-stream_side
+returns-in_err-stream_side c =
+    let p = err_from_is_err_and c.from_residual.result c.from_residual.ensures.1 in
     rw (p.1, p.2) (record {
-      refused-as-told = by_sides c.args.streams.now c.args.lanes.now _ (side_fault (length c.args.streams.now) (map lane_figured c.args.lanes.now))
-          c.if-not-some-figures.ensures.is-the-rule c.if-not-some-figures-2.ensures.is-the-rule c.in-err-stream-side.ensures.refused-as-told refl;
-      figures-as-given = tt;
+      refused_as_told = by_sides c.args.streams.now c.args.lanes.now _ (side_fault (length c.args.streams.now) (map lane_figured c.args.lanes.now))
+          c.if-not-some_figures.ensures.is_the_rule c.if-not-some_figures-2.ensures.is_the_rule c.in_err-stream_side.ensures.refused_as_told refl;
+      figures_as_given = tt;
     })
 
-pub returns-in-err-lane-side : goal.returns-in-err-lane-side
-returns-in-err-lane-side c =
-    let p = err_from_is_err_and c.from-residual-in-err-lane-side.result c.from-residual-in-err-lane-side.ensures.1 in
+pub returns-in_err-lane_side : goal.returns-in_err-lane_side
+returns-in_err-lane_side c =
+    let p = err_from_is_err_and c.from_residual-in_err-lane_side.result c.from_residual-in_err-lane_side.ensures.1 in
     rw (p.1, p.2) (record {
-      refused-as-told = by_sides c.args.streams.now c.args.lanes.now None _
-          c.if-not-some-figures.ensures.is-the-rule c.if-not-some-figures-2.ensures.is-the-rule c.in-ok-stream-side.ensures.refused-as-told c.in-err-lane-side.ensures.refused-as-told;
-      figures-as-given = tt;
+      refused_as_told = by_sides c.args.streams.now c.args.lanes.now None _
+          c.if-not-some_figures.ensures.is_the_rule c.if-not-some_figures-2.ensures.is_the_rule c.in_ok-stream_side.ensures.refused_as_told c.in_err-lane_side.ensures.refused_as_told;
+      figures_as_given = tt;
     })
 
 pub returns : goal.returns
 returns c =
     record {
-      refused-as-told = by_sides c.args.streams.now c.args.lanes.now None None
-          c.if-not-some-figures.ensures.is-the-rule c.if-not-some-figures-2.ensures.is-the-rule c.in-ok-stream-side.ensures.refused-as-told c.in-ok-lane-side.ensures.refused-as-told;
-      figures-as-given = (c.in-ok-stream-side.ensures.figures-as-given, c.in-ok-lane-side.ensures.figures-as-given);
+      refused_as_told = by_sides c.args.streams.now c.args.lanes.now None None
+          c.if-not-some_figures.ensures.is_the_rule c.if-not-some_figures-2.ensures.is_the_rule c.in_ok-stream_side.ensures.refused_as_told c.in_ok-lane_side.ensures.refused_as_told;
+      figures_as_given = (c.in_ok-stream_side.ensures.figures_as_given, c.in_ok-lane_side.ensures.figures_as_given);
     }

@@ -11,7 +11,6 @@ use Rattle.record.proofs.Contents.{few_parties}
 use Rattle.record.proofs.Lawfuls.{choices_ranked, choice_kind, choice_owner, choice_member, choice_place, choice_new, choice_few}
 use Rattle.record.proofs.Scanning.{ranked_by_push, ranked_by_other}
 use Rattle.std.proofs.lemmas.Bool.Decides.{nat_tests}
-use Rattle.ranking.specs.Market.{Strict}
 use Rattle.ranking.specs.Places.{entry, place_at, DistinctPlaces, Enterable, Entered}
 use Rattle.ranking.specs.Listings.{table_meaning, content_meaning}
 use Rattle.record.proofs.Lists.{among_place, place_at_lem, place_push_other, place_push_new}
@@ -174,17 +173,3 @@ table_content c law ws places s g words known es eg =
       by_stream = λ i j. by_stream_lem c law ws places words known i j k;
       by_lane = λ j i. by_lane_lem c law ws places words known j i k;
     })
-
--- what a rank of a table tells
-pub rank_told : (places : List ℕ) (n m i j p q k : ℕ) → cond (nat_lt i n) (cond (nat_lt j m) (place_at places p q) None) None ≡ Some k → (i < n) × (j < m) × (entry places p q ≡ k) × (k < 255)
-rank_told places n m i j p q k e = grind (arith, nat_tests)
-
--- no two parties have one rank
-pub table_strict : (places : List ℕ) (n m : ℕ) (row : ℕ → ℕ) → m ≤ 16 → DistinctPlaces places → Strict (λ i j. cond (nat_lt i n) (cond (nat_lt j m) (place_at places (row i) j) None) None)
-table_strict places n m row few distinct i j l k a b =
-    let x = rank_told places n m i j (row i) j k a in
-    let y = rank_told places n m i l (row i) l k b in
-    let small : entry places (row i) j < 255 = subst (λ v. v < 255) (sym x.2) x.3 in
-    let j16 = x.1 in
-    let l16 = y.1 in
-    distinct (row i, j, l) (omega arith, omega arith, small, x.2 ∙ sym y.2)
