@@ -14,15 +14,15 @@ use Rattle.archive.specs.Pairs.{lane_of, pairing_of}
 use Rattle.archive.proofs.Paired.{pair_streams, few_streams_of, pairing_lawful, pairing_cut}
 use Rattle.archive.proofs.judge.judge.Goals as goal
 
-pub lanes-of-lanes-requires : goal.lanes-of-lanes-requires
-lanes-of-lanes-requires c =
-    let told = c.in-ok-parts.ensures.ranks-by-the-content in
+pub lanes_of-lanes-requires : goal.lanes_of-lanes-requires
+lanes_of-lanes-requires c =
+    let told = c.in_ok-parts.ensures.ranks_by_the_content in
     let content = told.0 in
     let law = told.1.0.lawful in
     let e = ap (map middle) told.1.1.pair_words ∙ pair_streams content.pairs (pair_bytes content law) in
     record {
       streams_rise = subst Rising (sym e) law.streams_rise;
-      streams-are-few = subst (All (λ x. x < 16)) (sym e) (few_streams_of content law);
+      streams_are_few = subst (All (λ x. x < 16)) (sym e) (few_streams_of content law);
     }
 
 -- a record's own pairing is never refused
@@ -43,33 +43,33 @@ cut c law ws lanes n e words size known =
 never : (code : ℕ × ℕ) → Some code ≡ None → ⊥
 never code e = grind arith
 
-pub returns-in-err-finding : goal.returns-in-err-finding
-returns-in-err-finding c =
-    let told = c.in-ok-parts.ensures.ranks-by-the-content in
+pub returns-in_err-finding : goal.returns-in_err-finding
+returns-in_err-finding c =
+    let told = c.in_ok-parts.ensures.ranks_by_the_content in
     let law = told.1.0.lawful in
-    let bytes = cut told.0 law c.in-ok-parts.parts.pairs.words.now c.lanes-of-lanes.result c.in-ok-parts.parts.streams told.1.1.streams told.1.1.pair_words c.lanes-of-lanes.ensures.is_whole c.lanes-of-lanes.ensures.has-every-pair in
-    absurd (never _ (c.in-err-finding.ensures.refused-as-told ∙ not_refused told.0 law _ _ told.1.2 bytes))
+    let bytes = cut told.0 law c.in_ok-parts.parts.pairs.words.now c.lanes_of-lanes.result c.in_ok-parts.parts.streams told.1.1.streams told.1.1.pair_words c.lanes_of-lanes.ensures.is_whole c.lanes_of-lanes.ensures.has_every_pair in
+    absurd (never _ (c.in_err-finding.ensures.refused_as_told ∙ not_refused told.0 law _ _ told.1.2 bytes))
 
 pub returns : goal.returns
 returns c =
-    let told = c.in-ok-parts.ensures.ranks-by-the-content in
+    let told = c.in_ok-parts.ensures.ranks_by_the_content in
     let content = told.0 in
     let law = told.1.0.lawful in
-    let lanes = c.lanes-of-lanes.result in
-    let n = c.in-ok-parts.parts.streams in
-    let bytes = cut content law c.in-ok-parts.parts.pairs.words.now lanes n told.1.1.streams told.1.1.pair_words c.lanes-of-lanes.ensures.is_whole c.lanes-of-lanes.ensures.has-every-pair in
+    let lanes = c.lanes_of-lanes.result in
+    let n = c.in_ok-parts.parts.streams in
+    let bytes = cut content law c.in_ok-parts.parts.pairs.words.now lanes n told.1.1.streams told.1.1.pair_words c.lanes_of-lanes.ensures.is_whole c.lanes_of-lanes.ensures.has_every_pair in
     let whole : take n lanes ≡ take (n - 0) lanes = let z : n ≡ n - 0 = omega arith in ap (λ k. take k lanes) z in
-    let found = subst (λ x. Found (market_of x) (holding_of (market_of x) (take (n - 0) lanes)) c.in-ok-finding.finding) told.1.2 c.in-ok-finding.ensures.found-as-told in
+    let found = subst (λ x. Found (market_of x) (holding_of (market_of x) (take (n - 0) lanes)) c.in_ok-finding.finding) told.1.2 c.in_ok-finding.ensures.found_as_told in
     record {
-      refused-as-told = sym (record_faultless c.args.words.now content told.1.0);
-      judged-by-the-content = (
+      refused_as_told = sym (record_faultless c.args.words.now content told.1.0);
+      judged_by_the_content = (
         content,
         (
           told.1.0,
           record {
             streams = told.1.1.streams;
             pairing = whole ∙ bytes;
-            finding = subst (λ l. Found (market_of (content_meaning content)) (holding_of (market_of (content_meaning content)) l) c.in-ok-finding.finding) bytes found;
+            finding = subst (λ l. Found (market_of (content_meaning content)) (holding_of (market_of (content_meaning content)) l) c.in_ok-finding.finding) bytes found;
           },
         ),
       );

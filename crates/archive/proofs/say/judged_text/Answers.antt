@@ -6,7 +6,7 @@ use Rattle.archive.proofs.say.judged_text.Goals as goal
 
 pub returns : goal.returns
 returns c = record {
-  refused-as-told = sym (ap (λ b. refuse_if b (9, 512)) (le-ltb (length c.args.text.now) 512 (omega arith)));
-  within-the-list = omega arith;
-  text-or-unchanged = wrote_front _ _ _ _ (wrote_both _ _ _ _ _ _ _ _ c.put-pairs-at.ensures.wrote-the-lines c.put-finding.ensures.wrote-the-line);
+  refused_as_told = sym (ap (λ b. refuse_if b (9, 512)) (le-ltb (length c.args.text.now) 512 (omega arith)));
+  within_the_list = omega arith;
+  text_or_unchanged = wrote_front _ _ _ _ (wrote_both _ _ _ _ _ _ _ _ c.put_pairs-at.ensures.wrote_the_lines c.put_finding.ensures.wrote_the_line);
 }

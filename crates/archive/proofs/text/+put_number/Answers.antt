@@ -9,49 +9,49 @@ longer : (n : ℕ) → 10 ≤ n → n < 2 ^ 64 → length (decimal n) ≡ length
 longer n h l = ap length (decimal_step n h l) ∙ length_push (decimal (n / 10)) (48 + n % 10)
 
 pub bounds-out-at : goal.bounds-out-at
-bounds-out-at t c = omega (arith, c.requires.there-is-room, decimal_nonempty c.args.number (omega arith))
+bounds-out-at t c = omega (arith, c.requires.there_is_room, decimal_nonempty c.args.number (omega arith))
 
 pub returns-then-number-lt10 : goal.returns-then-number-lt10
 returns-then-number-lt10 t c =
     let n = c.args.number in
     let at = c.args.at in
     let o = c.args.out.now in
-    let room : at < length o = omega (arith, c.requires.there-is-room, decimal_nonempty n (omega arith)) in
+    let room : at < length o = omega (arith, c.requires.there_is_room, decimal_nonempty n (omega arith)) in
     let e : 48 + n % 10 ≡ 48 + n = omega arith in
     record {
-      takes-at-most-five = omega arith;
-      wrote-the-number =
+      takes_at_most_five = omega arith;
+      wrote_the_number =
           wrote_as o (set o at (48 + n % 10)) ((48 + n % 10) ∷ []) (decimal n) at (at + 1) (at + 1)
           (ap (λ d. d ∷ []) e ∙ sym (decimal_digit n (omega arith))) refl (wrote_byte o at (48 + n % 10) room);
     }
 
-pub put-number-next-requires : goal.put-number-next-requires
-put-number-next-requires t c =
+pub put_number-next-requires : goal.put_number-next-requires
+put_number-next-requires t c =
     let n = c.args.number in
-    (omega arith, omega (arith, c.requires.there-is-room, longer n (omega arith) (omega arith)))
+    (omega arith, omega (arith, c.requires.there_is_room, longer n (omega arith) (omega arith)))
 
 pub bounds-out-next : goal.bounds-out-next
 bounds-out-next t c =
-    let w = c.put-number-next.ensures.wrote-the-number in
-    omega (arith, c.requires.there-is-room, longer c.args.number (omega arith) (omega arith), w.place, w.size)
+    let w = c.put_number-next.ensures.wrote_the_number in
+    omega (arith, c.requires.there_is_room, longer c.args.number (omega arith) (omega arith), w.place, w.size)
 
-pub overflow-add-result-2 : goal.overflow-add-result-2
-overflow-add-result-2 t c =
-    let w = c.put-number-next.ensures.wrote-the-number in
-    omega (arith, c.requires.there-is-room, longer c.args.number (omega arith) (omega arith), w.place, w.size)
+pub overflow_add-result-2 : goal.overflow_add-result-2
+overflow_add-result-2 t c =
+    let w = c.put_number-next.ensures.wrote_the_number in
+    omega (arith, c.requires.there_is_room, longer c.args.number (omega arith) (omega arith), w.place, w.size)
 
 pub returns : goal.returns
 returns t c =
     let n = c.args.number in
     let at = c.args.at in
     let o = c.args.out.now in
-    let p = c.put-number-next.new.out in
-    let next = c.put-number-next.result in
-    let w = c.put-number-next.ensures.wrote-the-number in
-    let room : next < length p = omega (arith, c.requires.there-is-room, longer n (omega arith) (omega arith), w.place, w.size) in
+    let p = c.put_number-next.new.out in
+    let next = c.put_number-next.result in
+    let w = c.put_number-next.ensures.wrote_the_number in
+    let room : next < length p = omega (arith, c.requires.there_is_room, longer n (omega arith) (omega arith), w.place, w.size) in
     record {
-      takes-at-most-five = omega (arith, w.place, longer n (omega arith) (omega arith), length-decimal-le 5 n (omega arith) (omega arith) (omega arith));
-      wrote-the-number =
+      takes_at_most_five = omega (arith, w.place, longer n (omega arith) (omega arith), length-decimal-le 5 n (omega arith) (omega arith) (omega arith));
+      wrote_the_number =
           wrote_as o (set p next (48 + n % 10)) (decimal (n / 10) ++ ((48 + n % 10) ∷ [])) (decimal n) at (next + 1) (next + 1) (sym (decimal_step n (omega arith) (omega arith))) refl
           (wrote_both o p (set p next (48 + n % 10)) (decimal (n / 10)) ((48 + n % 10) ∷ []) at next (next + 1) w (wrote_byte p next (48 + n % 10) room));
     }

@@ -4,6 +4,6 @@ use Rattle.archive.proofs.text.put_both.Goals as goal
 
 pub returns : goal.returns
 returns c = record {
-  takes-at-most-nine = omega arith;
-  wrote_both = wrote_both _ _ _ _ _ _ _ _ c.put-party-space.ensures.wrote-the-party (wrote_both _ _ _ _ _ _ _ _ c.put-next.ensures.wrote-the-bytes c.put-party.ensures.wrote-the-party);
+  takes_at_most_nine = omega arith;
+  wrote_both = wrote_both _ _ _ _ _ _ _ _ c.put_party-space.ensures.wrote_the_party (wrote_both _ _ _ _ _ _ _ _ c.put-next.ensures.wrote_the_bytes c.put_party.ensures.wrote_the_party);
 }
