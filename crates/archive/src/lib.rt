@@ -1,4 +1,5 @@
 //! What is said of a record: the text of its pairing, of what the finder answers, and of a refusal.
+#![tactic(auto)]
 
 pub mod judge;
 pub mod judged;

@@ -1,4 +1,5 @@
 //! The calls that the comparison with Rust makes: boards are played, and every answer and table is written out.
+#![tactic(auto)]
 
 use board::board::Board;
 use board::rows::{MOST_PARTIES, Rows};

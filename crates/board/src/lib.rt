@@ -1,4 +1,5 @@
 //! The board: offers, compensation chains, turns and questions, written once for every ranking.
+#![tactic(auto)]
 
 pub mod board;
 pub mod play;

@@ -1,4 +1,5 @@
 //! The worked boards, as records, and what must come out of them.
+#![tactic(auto)]
 
 #[cfg(test)]
 mod tests;

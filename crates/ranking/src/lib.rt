@@ -1,4 +1,5 @@
 //! Rankings of streams and lanes: the interface, pairings, and the finder of what makes one unstable.
+#![tactic(auto)]
 
 pub mod figures;
 pub mod finder;

@@ -1,4 +1,5 @@
 //! Sets of parties: a set of the numbers 0 to 31 as a bit mask. Nothing outside this crate speaks of bits.
+#![tactic(auto)]
 
 ghost use Rattle.std.specs.Prelude.{◌≡◌, ℕ, ◌<◌, Bool, true, false, not, ◌&&◌, ◌||◌, Decides, ◌==◌, nat_le, nat_lt};
 ghost use Rattle.sets.specs.Sets.{has};

@@ -9,14 +9,14 @@ use Rattle.pairs.proofs.tell.judge_bytes.Goals as goal
 pub returns : goal.returns
 returns c =
     let bytes = c.args.bytes.now in
-    let n = c.in-ok-count.count in
-    let words = c.words-of.new.words in
+    let n = c.in_ok-count.count in
+    let words = c.words_of.new.words in
     let z : n - 0 ≡ n = omega arith in
-    let read : take (n - 0) words ≡ words_of bytes = ap (λ k. take k words) z ∙ c.in-ok-count.ensures.words-or-unchanged.front in
+    let read : take (n - 0) words ≡ words_of bytes = ap (λ k. take k words) z ∙ c.in_ok-count.ensures.words_or_unchanged.front in
     record {
-      refused-as-told =
-          c.judge.ensures.refused-as-told
+      refused_as_told =
+          c.judge.ensures.refused_as_told
           ∙ ap record_fault read
-          ∙ ap (λ o. or_else o (record_fault (words_of bytes))) c.in-ok-count.ensures.refused-as-told;
-      judged-by-the-content = subst (λ ws. IfOk c.judge.result (λ j. (x : Content) × (Records ws x × JudgedOf x j))) read c.judge.ensures.judged-by-the-content;
+          ∙ ap (λ o. or_else o (record_fault (words_of bytes))) c.in_ok-count.ensures.refused_as_told;
+      judged_by_the_content = subst (λ ws. IfOk c.judge.result (λ j. (x : Content) × (Records ws x × JudgedOf x j))) read c.judge.ensures.judged_by_the_content;
     }
