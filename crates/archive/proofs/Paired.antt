@@ -1,6 +1,6 @@
 -- Pairs as a pairing.
 use Rattle.std.proofs.Common.{◌≡◌, ℕ, zero, suc, ◌+◌, ◌<◌, ◌≤◌, Bool, true, false, cond, ◌||◌, eqb, ◌≢◌, ◌⊎◌, List, [], ◌∷◌, ◌++◌, map, length, get_or, take, drop, set, replicate, sym, refl, ap, ◌∙◌, subst, inl, inr, ⊎_elim, arith}
-use Rattle.std.specs.List.{range_with_len, AllByRecursion as All}
+use Rattle.std.specs.List.{range_with_len, AllByRecursion}
 use Rattle.std.proofs.lemmas.List.FromFn.{length-map-range_with_len, get_or-map-range_with_len}
 use Rattle.std.proofs.ByRecursion.{All-get_or, All-map, All-weaker}
 use Rattle.std.proofs.lemmas.List.{get_or-set_same, get_or-set_other, get_or-replicate, map_push, take_more, length-map, get_or-map, get_or-take, ext_get_or, length-take-le}
@@ -15,7 +15,7 @@ use Rattle.record.proofs.Wording.{middle_pair}
 use Rattle.archive.specs.Pairs.{lane_of, pairing_of}
 
 -- one more pair, of a stream above all before
-pub lane_push : (ps : List (ℕ × ℕ)) (q : ℕ × ℕ) (i : ℕ) → All (λ p. p.0 < q.0) ps → lane_of (ps ++ q ∷ []) i ≡ cond (eqb q.0 i) q.1 (lane_of ps i)
+pub lane_push : (ps : List (ℕ × ℕ)) (q : ℕ × ℕ) (i : ℕ) → AllByRecursion (λ p. p.0 < q.0) ps → lane_of (ps ++ q ∷ []) i ≡ cond (eqb q.0 i) q.1 (lane_of ps i)
 lane_push [] q i a = refl
 lane_push (p ∷ ps) q i a = ⊎_elim here (there (lane_push ps q i a.1)) (cases_eq p.0 i)
   where
@@ -34,7 +34,7 @@ lane_push (p ∷ ps) q i a = ⊎_elim here (there (lane_push ps q i a.1)) (cases
         ∙ ap (λ l. cond (eqb q.0 i) q.1 l) (sym (cond-false (eqb p.0 i) p.1 (lane_of ps i) (ne_eqb p.0 i n)))
 
 -- the streams before word k are below its stream
-pub streams_below : (ws : List ℕ) (k : ℕ) → k < length ws → Rising (map middle ws) → All (λ p. p.0 < middle (get_or ws k 0)) (map pair_of (take k ws))
+pub streams_below : (ws : List ℕ) (k : ℕ) → k < length ws → Rising (map middle ws) → AllByRecursion (λ p. p.0 < middle (get_or ws k 0)) (map pair_of (take k ws))
 streams_below [] k h r = absurd (omega arith)
 streams_below (w ∷ ws) zero h r = tt
 streams_below (w ∷ ws) (suc k) h r = (
@@ -68,7 +68,7 @@ one_paired lanes ws k h size rise few known i hi =
         ∙ sym (cond-false (eqb (middle w) i) (low w) (lane_of (map pair_of (take k ws)) i) (ne_eqb (middle w) i n))
 
 -- The pairs of a lawful content make a lawful pairing.
-lane_named : (g : ℕ) (ps : List (ℕ × ℕ)) (i : ℕ) → All (λ q. q.1 < g) ps → (lane_of ps i < g) ⊎ (◌≡◌ {A = ℕ} (lane_of ps i) 255)
+lane_named : (g : ℕ) (ps : List (ℕ × ℕ)) (i : ℕ) → AllByRecursion (λ q. q.1 < g) ps → (lane_of ps i < g) ⊎ (◌≡◌ {A = ℕ} (lane_of ps i) 255)
 lane_named g [] i a = inr refl
 lane_named g (q ∷ ps) i a =
     cond_both (eqb q.0 i) q.1 (lane_of ps i) (λ l. (l < g) ⊎ (◌≡◌ {A = ℕ} l 255)) (λ _. inl a.0) (λ _. lane_named g ps i a.1)
@@ -131,5 +131,5 @@ pair_streams [] b = refl
 pair_streams (q ∷ ps) b =
     ap (λ x. x ∷ map middle (map pair_word ps)) (middle_pair q b.0.0 b.0.1) ∙ ap (λ l. q.0 ∷ l) (pair_streams ps b.1)
 
-pub few_streams_of : (c : Content) → Lawful c → All (λ x. x < 16) (map (λ q. q.0) c.pairs)
+pub few_streams_of : (c : Content) → Lawful c → AllByRecursion (λ x. x < 16) (map (λ q. q.0) c.pairs)
 few_streams_of c law = All-map (λ x. x < 16) (λ q. q.0) c.pairs (All-weaker (λ q. q.0 < c.streams) (λ q. q.0 < 16) (λ q h. omega (arith, law.few_streams)) c.pairs law.pairs_of_streams)

@@ -1,5 +1,5 @@
 ghost use Rattle.std.specs.Prelude.{◌≡◌, ℕ, ◌+◌, ◌<◌, ◌≤◌, map, length, IfOk, slice_index_or};
-ghost use Rattle.std.specs.List.{AllByRecursion as All};
+ghost use Rattle.std.specs.List.{AllByRecursion};
 ghost use Rattle.record.specs.Refusals.{refused_by};
 ghost use Rattle.record.specs.Format.{Content, Records, Rising};
 ghost use Rattle.record.specs.Faults.{middle, pair_of, record_fault};
@@ -16,7 +16,7 @@ use record::word::{low_byte, middle_byte};
 // The lane of each stream by a record's pair words, 255 for nobody.
 fn lanes_of(pairs: &[u32]) -> [u8; MOST_STREAMS]
     requires streams_rise { Rising (map middle pairs.now) }
-    requires streams_are_few { All (λ x. x < 16) (map middle pairs.now) }
+    requires streams_are_few { AllByRecursion (λ x. x < 16) (map middle pairs.now) }
     ensures has_every_pair { (i : ℕ) → i < 16 → slice_index_or result i 255 ≡ lane_of (map pair_of pairs.now) i }
     ensures is_whole { length result ≡ 16 }
 {

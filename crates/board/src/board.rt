@@ -30,8 +30,8 @@ impl<R: Ranking> Board<R> {
     /// A new board: nobody holds anybody, every open set is the whole other side, and there are no bidders.
     pub fn new(ranking: R) -> Board<R>
         ensures holds_its_ranking { result.ranking ≡ ranking }
-        ensures goes_by_its_ranking { market_at result.tables ≡ market_of (meaning ranking) }
-        ensures is_new { state_at result.tables ≡ new_state (market_of (meaning ranking)) }
+        ensures goes_by_its_ranking { market_at result.tables ≡ market_of (R.meaning ranking) }
+        ensures is_new { state_at result.tables ≡ new_state (market_of (R.meaning ranking)) }
     {
         let tables = Tables::new(&ranking);
         Board { ranking, tables }
@@ -118,7 +118,7 @@ impl<R: Ranking> Board<R> {
 impl<R: Ranking + Drop> Board<R> {
     /// A board over given rows, to take up a board again; none where they do not keep what every board keeps.
     pub fn resume(ranking: R, rows: Rows) -> Option<Board<R>>
-        ensures resumed_exactly_when_kept { let m = market_of (meaning ranking) in MatchOption result (Kept m (state_of rows) → ⊥) (λ b. (b.ranking ≡ ranking) × (market_at b.tables ≡ m) × (state_at b.tables ≡ state_of rows)) }
+        ensures resumed_exactly_when_kept { let m = market_of (R.meaning ranking) in MatchOption result (Kept m (state_of rows) → ⊥) (λ b. (b.ranking ≡ ranking) × (market_at b.tables ≡ m) × (state_at b.tables ≡ state_of rows)) }
     {
         let tables = Tables::from_rows(&ranking, rows)?;
         Some(Board { ranking, tables })

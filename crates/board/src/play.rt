@@ -33,8 +33,8 @@ fn lane_byte(held: Option<u8>, streams: u8) -> u8
 impl Tables {
     /// The tables of a new board over a ranking.
     pub(crate) fn new<R: Ranking>(ranking: &R) -> Tables
-        ensures goes_by_the_ranking { market_at result ≡ market_of (meaning ranking.now) }
-        ensures is_new { state_at result ≡ new_state (market_of (meaning ranking.now)) }
+        ensures goes_by_the_ranking { market_at result ≡ market_of (R.meaning ranking.now) }
+        ensures is_new { state_at result ≡ new_state (market_of (R.meaning ranking.now)) }
     {
         let ranks = RankTable::of(ranking);
         let rows = Rows::new(ranks.streams, ranks.lanes);
@@ -43,7 +43,7 @@ impl Tables {
 
     /// Tables over a ranking and given rows; none where the rows do not keep what every board keeps.
     pub(crate) fn from_rows<R: Ranking>(ranking: &R, rows: Rows) -> Option<Tables>
-        ensures only_kept_rows { let m = market_of (meaning ranking.now) in MatchOption result (Kept m (state_of rows) → ⊥) (λ t. (market_at t ≡ m) × (t.rows ≡ rows)) }
+        ensures only_kept_rows { let m = market_of (R.meaning ranking.now) in MatchOption result (Kept m (state_of rows) → ⊥) (λ t. (market_at t ≡ m) × (t.rows ≡ rows)) }
     {
         let ranks = RankTable::of(ranking);
         if is_kept(&ranks, &rows) {

@@ -30,8 +30,8 @@ fn rank_number(rank: Option<u16>) -> u32
 
 // The ranks of a ranking by party numbers. Every question is put once.
 fn ranks_of<R: Ranking>(ranking: &R, streams: u8, lanes: u8) -> [u32; TABLE]
-    requires are_its_sizes { (streams ≡ (meaning ranking.now).streams) × (lanes ≡ (meaning ranking.now).lanes) }
-    ensures are_its_ranks { (p q : ℕ) → rank_in result p q ≡ rank_across (meaning ranking.now) p q }
+    requires are_its_sizes { (streams ≡ (R.meaning ranking.now).streams) × (lanes ≡ (R.meaning ranking.now).lanes) }
+    ensures are_its_ranks { (p q : ℕ) → rank_in result p q ≡ rank_across (R.meaning ranking.now) p q }
 {
     let mut table = [NO_RANK; TABLE];
     for stream in 0..streams {
@@ -47,7 +47,7 @@ fn ranks_of<R: Ranking>(ranking: &R, streams: u8, lanes: u8) -> [u32; TABLE]
 impl RankTable {
     /// The sizes and ranks of a ranking.
     pub(crate) fn of<R: Ranking>(ranking: &R) -> RankTable
-        ensures is_its_market { market_in result ≡ market_of (meaning ranking.now) }
+        ensures is_its_market { market_in result ≡ market_of (R.meaning ranking.now) }
     {
         let streams = ranking.streams();
         let lanes = ranking.lanes();

@@ -3,7 +3,7 @@ use Rattle.std.specs.Prelude.{◌≡◌, ℕ, ◌+◌, ◌-◌, ◌*◌, ◌<◌
 use Rattle.std.proofs.Common.{sym, ◌∙◌, ap, subst, inl, inr, ⊎_elim, arith}
 use Rattle.std.proofs.lemmas.List.{get_or-replicate, get_or_past, length-replicate, get_or-set_same, get_or-set_other}
 use Rattle.std.proofs.lemmas.Bool.{cases_lt, cases_eq, le-ltb, lt-ltb, eq-eqb, ne_eqb, cond-true, cond-false}
-use Rattle.std.specs.List.{AllByRecursion as All}
+use Rattle.std.specs.List.{AllByRecursion}
 use Rattle.record.specs.Lists.{among, place_in, next}
 use Rattle.record.specs.Faults.{kind, high, middle, low, ranked_by}
 use Rattle.record.specs.Format.{Content, Lawful, parties, facing, choice_words}
@@ -102,7 +102,7 @@ entered_distinct places ws size known t h = ⊎_elim inside outside (cases_lt t.
     outside hp = absurd (let e : ◌≡◌ {A = ℕ} (entry places t.0 t.1) 255 = get_or_past places (16 * t.0 + t.1) 255 (omega arith) in let l = h.2 in omega arith)
 
 -- Lists of places and contents.
-absent : (xs : List ℕ) (n q : ℕ) → n ≤ q → All (λ x. x < n) xs → place_in q xs ≡ None
+absent : (xs : List ℕ) (n q : ℕ) → n ≤ q → AllByRecursion (λ x. x < n) xs → place_in q xs ≡ None
 absent [] n q h a = refl
 absent (x ∷ xs) n q h a =
     let l = a.0 in

@@ -1,6 +1,6 @@
 -- The words of a content give the content back.
 use Rattle.std.proofs.Common.{◌≡◌, ℕ, zero, suc, ◌+◌, ◌*◌, ◌<◌, ◌≤◌, true, false, cond, ◌||◌, eqb, ltb, List, [], ◌∷◌, ◌++◌, map, length, get_or, filter, sym, refl, ap, ◌∙◌, ⊎_elim, arith}
-use Rattle.std.specs.List.{AllByRecursion as All}
+use Rattle.std.specs.List.{AllByRecursion}
 use Rattle.std.proofs.lemmas.List.Elements.{filter-append}
 use Rattle.std.proofs.ByRecursion.{All-weaker}
 use Rattle.std.proofs.lemmas.List.{append-nil, length-append, length-map}
@@ -51,7 +51,7 @@ rising_distinct : (xs : List ℕ) → Rising xs → Distinct xs
 rising_distinct [] r = tt
 rising_distinct (x ∷ xs) r = (absent x xs r.0, rising_distinct xs r.1)
   where
-    absent : (y : ℕ) (ys : List ℕ) → All (λ z. y < z) ys → among y ys ≡ false
+    absent : (y : ℕ) (ys : List ℕ) → AllByRecursion (λ z. y < z) ys → among y ys ≡ false
     absent y [] a = refl
     absent y (z ∷ zs) a = let h = a.0 in ap (λ b. b || among y zs) (ne_eqb y z (λ s. absurd (omega arith))) ∙ absent y zs a.1
 
@@ -71,7 +71,7 @@ module _ (c : Content) (law : Lawful c) where
   pub pair_bytes : BytePairs c.pairs
   pair_bytes = both c.pairs law.pairs_of_streams law.pairs_of_lanes
     where
-      both : (ps : List (ℕ × ℕ)) → All (λ q. q.0 < c.streams) ps → All (λ q. q.1 < c.lanes) ps → BytePairs ps
+      both : (ps : List (ℕ × ℕ)) → AllByRecursion (λ q. q.0 < c.streams) ps → AllByRecursion (λ q. q.1 < c.lanes) ps → BytePairs ps
       both [] a b = tt
       both (q ∷ ps) a b = let h = a.0 in let k = b.0 in ((omega (arith, law.few_streams), omega (arith, law.few_lanes)), both ps a.1 b.1)
 
@@ -80,7 +80,7 @@ module _ (c : Content) (law : Lawful c) where
       let d = few_distinct 16 (map (λ q. q.0) c.pairs) (rising_distinct (map (λ q. q.0) c.pairs) law.streams_rise) (firsts c.pairs law.pairs_of_streams) in
       omega (arith, length-map c.pairs (λ q. q.0))
     where
-      firsts : (ps : List (ℕ × ℕ)) → All (λ q. q.0 < c.streams) ps → All (λ x. x < 16) (map (λ q. q.0) ps)
+      firsts : (ps : List (ℕ × ℕ)) → AllByRecursion (λ q. q.0 < c.streams) ps → AllByRecursion (λ x. x < 16) (map (λ q. q.0) ps)
       firsts [] a = tt
       firsts (q ∷ ps) a = let h = a.0 in (omega (arith, law.few_streams), firsts ps a.1)
 
@@ -125,7 +125,7 @@ module _ (c : Content) (law : Lawful c) where
   pub content_pairs : of_kind 4 (record_words c) ≡ map pair_word c.pairs
   content_pairs = pairs_of (head_word c.streams c.lanes) (end_word (length (body_words c))) (choice_words c.ranked (parties c)) (map turn_word c.turns) (map pair_word c.pairs) kh kinds_choices (turn_kinds c.turns turn_bytes) (pair_kinds c.pairs pair_bytes) (kind_end (length (body_words c)) (omega (arith, few_words)))
 
-  no_member : (xs : List ℕ) (n : ℕ) → n ≡ 0 → All (λ q. q < n) xs → xs ≡ []
+  no_member : (xs : List ℕ) (n : ℕ) → n ≡ 0 → AllByRecursion (λ q. q < n) xs → xs ≡ []
   no_member [] n e a = refl
   no_member (x ∷ xs) n e a = absurd (let h = a.0 in omega arith)
 

@@ -1,6 +1,6 @@
 -- What stands in the words of a content: the words of each kind, and what they say.
 use Rattle.std.proofs.Common.{◌≡◌, ℕ, zero, suc, ◌+◌, ◌<◌, ◌≤◌, Bool, true, eqb, ltb, List, [], ◌∷◌, ◌++◌, map, length, filter, sym, refl, ap, ◌∙◌, ⊎_elim, arith}
-use Rattle.std.specs.List.{AllByRecursion as All}
+use Rattle.std.specs.List.{AllByRecursion}
 use Rattle.std.proofs.lemmas.List.Elements.{filter-append}
 use Rattle.std.proofs.lemmas.List.{append-nil}
 use Rattle.std.proofs.lemmas.Bool.{and_from, eq-eqb, ne_eqb, eqb-true, ltb-true, lt-ltb, cases_order}
@@ -12,7 +12,7 @@ use Rattle.record.proofs.Wording.{kind_choice, high_choice, low_choice, kind_tur
 
 -- every number is a byte
 abbrev pub Bytes : List ℕ → Type 0
-Bytes xs = All (λ x. x < 256) xs
+Bytes xs = AllByRecursion (λ x. x < 256) xs
 
 -- One owner's words: their kind, their owner, and whom they name.
 pub owner_every : (t : ℕ → Bool) (o k : ℕ) (xs : List ℕ) → ((j q : ℕ) → j < k + length xs → q < 256 → t (choice_word o j q) ≡ true) → Bytes xs → every t (owner_words o k xs) ≡ true
@@ -86,7 +86,7 @@ turn_lows [] b = refl
 turn_lows (t ∷ ts) b = ap (λ x. x ∷ map low (map turn_word ts)) (low_turn t b.0) ∙ ap (λ xs. t ∷ xs) (turn_lows ts b.1)
 
 abbrev pub BytePairs : List (ℕ × ℕ) → Type 0
-BytePairs ps = All (λ q. (q.0 < 256) × (q.1 < 256)) ps
+BytePairs ps = AllByRecursion (λ q. (q.0 < 256) × (q.1 < 256)) ps
 
 pub pair_kinds : (ps : List (ℕ × ℕ)) → BytePairs ps → every (λ w. eqb (kind w) 4) (map pair_word ps) ≡ true
 pair_kinds [] b = refl

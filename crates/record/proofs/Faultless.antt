@@ -1,6 +1,6 @@
 -- Words without a fault are the record of the content that they tell.
 use Rattle.std.proofs.Common.{◌≡◌, ℕ, zero, suc, ◌+◌, ◌-◌, ◌/◌, ◌%◌, ◌<◌, ◌≤◌, Bool, true, false, not, ◌&&◌, eqb, ltb, leb, ◌⊎◌, List, [], ◌∷◌, ◌++◌, map, length, get_or, take, None, filter, sym, refl, ap, ◌∙◌, subst, inl, inr, ⊎_elim, append_assoc, arith}
-use Rattle.std.specs.List.{AllByRecursion as All}
+use Rattle.std.specs.List.{AllByRecursion}
 use Rattle.std.proofs.ByRecursion.{All-push}
 use Rattle.std.proofs.lemmas.List.{append-nil, map_push, length_push, take_more, take_all, length-take-le}
 use Rattle.std.proofs.lemmas.Bool.{and_parts, and_from, lt-ltb, ne_eqb, eq-eqb, eqb-true, ltb-true, leb-true, not-true, cases_order, cases_eq}
@@ -66,7 +66,7 @@ pub record Built (s g : ℕ) (ws : List ℕ) : Type 0 where
   pub lawful : Lawful (so_far s g ws)
   pub body : ws ≡ body_words (so_far s g ws)
 
-rising_push : (xs : List ℕ) (y : ℕ) → Rising xs → All (λ x. x < y) xs → Rising (xs ++ y ∷ [])
+rising_push : (xs : List ℕ) (y : ℕ) → Rising xs → AllByRecursion (λ x. x < y) xs → Rising (xs ++ y ∷ [])
 rising_push [] y r a = (tt, tt)
 rising_push (x ∷ xs) y r a = (All-push (λ z. x < z) xs y r.0 a.0, rising_push xs y r.1 a.1)
 
@@ -78,12 +78,12 @@ built_head w kw within' = record {
     few_streams = sizes.1;
     some_lane = sizes.2;
     few_lanes = sizes.3;
-    ranks_the_other_side = λ p. subst (All (λ q. q < facing (middle w) (low w) p)) (sym (none p)) tt;
+    ranks_the_other_side = λ p. subst (AllByRecursion (λ q. q < facing (middle w) (low w) p)) (sym (none p)) tt;
     ranks_nobody_twice = λ p. subst Distinct (sym (none p)) tt;
-    turns_of_parties = subst (All (λ p. p < middle w + low w)) (sym no_turns) tt;
+    turns_of_parties = subst (AllByRecursion (λ p. p < middle w + low w)) (sym no_turns) tt;
     few_turns = subst (λ l. length l ≤ 7600) (sym no_turns) (omega arith);
-    pairs_of_streams = subst (All (λ q. q.0 < middle w)) (sym no_pairs) tt;
-    pairs_of_lanes = subst (All (λ q. q.1 < low w)) (sym no_pairs) tt;
+    pairs_of_streams = subst (AllByRecursion (λ q. q.0 < middle w)) (sym no_pairs) tt;
+    pairs_of_lanes = subst (AllByRecursion (λ q. q.1 < low w)) (sym no_pairs) tt;
     streams_rise = subst (λ l. Rising (map (λ q. q.0) l)) (sym no_pairs) tt;
     no_lane_twice = subst (λ l. Distinct (map (λ q. q.1) l)) (sym no_pairs) tt;
   };
@@ -129,19 +129,19 @@ module _ (s g w : ℕ) (ws : List ℕ) (built : Built s g ws) where
       some_lane = law.some_lane;
       few_lanes = law.few_lanes;
       ranks_the_other_side = λ p. ⊎_elim
-          (λ e. subst (λ o. All (λ q. q < facing s g o) (ranked_by (ws ++ w ∷ []) o)) (sym e)
-          (subst (All (λ q. q < facing s g (high w))) (sym here) (All-push (λ q. q < facing s g (high w)) (ranked_by ws (high w)) (low w) (law.ranks_the_other_side (high w)) (ltb-true (low w) (facing s g (high w)) limits.1))))
-          (λ n. subst (All (λ q. q < facing s g p)) (sym (other p n)) (law.ranks_the_other_side p))
+          (λ e. subst (λ o. AllByRecursion (λ q. q < facing s g o) (ranked_by (ws ++ w ∷ []) o)) (sym e)
+          (subst (AllByRecursion (λ q. q < facing s g (high w))) (sym here) (All-push (λ q. q < facing s g (high w)) (ranked_by ws (high w)) (low w) (law.ranks_the_other_side (high w)) (ltb-true (low w) (facing s g (high w)) limits.1))))
+          (λ n. subst (AllByRecursion (λ q. q < facing s g p)) (sym (other p n)) (law.ranks_the_other_side p))
           (cases_eq p (high w));
       ranks_nobody_twice = λ p. ⊎_elim
           (λ e. subst (λ o. Distinct (ranked_by (ws ++ w ∷ []) o)) (sym e)
           (subst Distinct (sym here) (distinct_push (ranked_by ws (high w)) (low w) (law.ranks_nobody_twice (high w)) (not-true (among (low w) (ranked_by ws (high w))) place.1))))
           (λ n. subst Distinct (sym (other p n)) (law.ranks_nobody_twice p))
           (cases_eq p (high w));
-      turns_of_parties = subst (All (λ p. p < s + g)) (sym same_turns) law.turns_of_parties;
+      turns_of_parties = subst (AllByRecursion (λ p. p < s + g)) (sym same_turns) law.turns_of_parties;
       few_turns = subst (λ l. length l ≤ 7600) (sym same_turns) law.few_turns;
-      pairs_of_streams = subst (All (λ q. q.0 < s)) (sym same_pairs) law.pairs_of_streams;
-      pairs_of_lanes = subst (All (λ q. q.1 < g)) (sym same_pairs) law.pairs_of_lanes;
+      pairs_of_streams = subst (AllByRecursion (λ q. q.0 < s)) (sym same_pairs) law.pairs_of_streams;
+      pairs_of_lanes = subst (AllByRecursion (λ q. q.1 < g)) (sym same_pairs) law.pairs_of_lanes;
       streams_rise = subst (λ l. Rising (map (λ q. q.0) l)) (sym same_pairs) law.streams_rise;
       no_lane_twice = subst (λ l. Distinct (map (λ q. q.1) l)) (sym same_pairs) law.no_lane_twice;
     };
@@ -203,12 +203,12 @@ module _ (s g w : ℕ) (ws : List ℕ) (built : Built s g ws) where
       few_streams = law.few_streams;
       some_lane = law.some_lane;
       few_lanes = law.few_lanes;
-      ranks_the_other_side = λ p. subst (All (λ q. q < facing s g p)) (sym (ranks p)) (law.ranks_the_other_side p);
+      ranks_the_other_side = λ p. subst (AllByRecursion (λ q. q < facing s g p)) (sym (ranks p)) (law.ranks_the_other_side p);
       ranks_nobody_twice = λ p. subst Distinct (sym (ranks p)) (law.ranks_nobody_twice p);
-      turns_of_parties = subst (All (λ p. p < s + g)) (sym more) (All-push (λ p. p < s + g) (turns_in ws) (low w) law.turns_of_parties (ltb-true (low w) (s + g) bits.1));
+      turns_of_parties = subst (AllByRecursion (λ p. p < s + g)) (sym more) (All-push (λ p. p < s + g) (turns_in ws) (low w) law.turns_of_parties (ltb-true (low w) (s + g) bits.1));
       few_turns = subst (λ l. length l ≤ 7600) (sym more) (rw (length_push (turns_in ws) (low w)) (omega (arith, ltb-true (length (turns_in ws)) 7600 order)));
-      pairs_of_streams = subst (All (λ q. q.0 < s)) (sym same_pairs) law.pairs_of_streams;
-      pairs_of_lanes = subst (All (λ q. q.1 < g)) (sym same_pairs) law.pairs_of_lanes;
+      pairs_of_streams = subst (AllByRecursion (λ q. q.0 < s)) (sym same_pairs) law.pairs_of_streams;
+      pairs_of_lanes = subst (AllByRecursion (λ q. q.1 < g)) (sym same_pairs) law.pairs_of_lanes;
       streams_rise = subst (λ l. Rising (map (λ q. q.0) l)) (sym same_pairs) law.streams_rise;
       no_lane_twice = subst (λ l. Distinct (map (λ q. q.1) l)) (sym same_pairs) law.no_lane_twice;
     };
@@ -246,12 +246,12 @@ module _ (s g w : ℕ) (ws : List ℕ) (built : Built s g ws) where
       few_streams = law.few_streams;
       some_lane = law.some_lane;
       few_lanes = law.few_lanes;
-      ranks_the_other_side = λ p. subst (All (λ q. q < facing s g p)) (sym (ranks p)) (law.ranks_the_other_side p);
+      ranks_the_other_side = λ p. subst (AllByRecursion (λ q. q < facing s g p)) (sym (ranks p)) (law.ranks_the_other_side p);
       ranks_nobody_twice = λ p. subst Distinct (sym (ranks p)) (law.ranks_nobody_twice p);
-      turns_of_parties = subst (All (λ p. p < s + g)) (sym same_turns) law.turns_of_parties;
+      turns_of_parties = subst (AllByRecursion (λ p. p < s + g)) (sym same_turns) law.turns_of_parties;
       few_turns = subst (λ l. length l ≤ 7600) (sym same_turns) law.few_turns;
-      pairs_of_streams = subst (All (λ q. q.0 < s)) (sym more) (All-push (λ q. q.0 < s) (pairs_in ws) (pair_of w) law.pairs_of_streams (ltb-true (middle w) s limits.0));
-      pairs_of_lanes = subst (All (λ q. q.1 < g)) (sym more) (All-push (λ q. q.1 < g) (pairs_in ws) (pair_of w) law.pairs_of_lanes (ltb-true (low w) g limits.1));
+      pairs_of_streams = subst (AllByRecursion (λ q. q.0 < s)) (sym more) (All-push (λ q. q.0 < s) (pairs_in ws) (pair_of w) law.pairs_of_streams (ltb-true (middle w) s limits.0));
+      pairs_of_lanes = subst (AllByRecursion (λ q. q.1 < g)) (sym more) (All-push (λ q. q.1 < g) (pairs_in ws) (pair_of w) law.pairs_of_lanes (ltb-true (low w) g limits.1));
       streams_rise = subst Rising (sym (ap (map (λ q. q.0)) more ∙ map_push (λ q. q.0) (pairs_in ws) (pair_of w)))
           (rising_push (map (λ q. q.0) (pairs_in ws)) (middle w) law.streams_rise (lower (pairs_in ws) new.0));
       no_lane_twice = subst Distinct (sym (ap (map (λ q. q.1)) more ∙ map_push (λ q. q.1) (pairs_in ws) (pair_of w)))
@@ -283,7 +283,7 @@ module _ (s g w : ℕ) (ws : List ℕ) (built : Built s g ws) where
       new : (every (λ q. ltb q.0 (middle w)) (pairs_in ws) ≡ true) × (not (among (low w) (map (λ q. q.1) (pairs_in ws))) ≡ true)
       new = and_parts (every (λ q. ltb q.0 (middle w)) (pairs_in ws)) (not (among (low w) (map (λ q. q.1) (pairs_in ws)))) order
 
-      lower : (ps : List (ℕ × ℕ)) → every (λ q. ltb q.0 (middle w)) ps ≡ true → All (λ x. x < middle w) (map (λ q. q.0) ps)
+      lower : (ps : List (ℕ × ℕ)) → every (λ q. ltb q.0 (middle w)) ps ≡ true → AllByRecursion (λ x. x < middle w) (map (λ q. q.0) ps)
       lower [] e = tt
       lower (q ∷ ps) e = let p = and_parts (ltb q.0 (middle w)) (every (λ r. ltb r.0 (middle w)) ps) e in (ltb-true q.0 (middle w) p.0, lower ps p.1)
 

@@ -1,6 +1,6 @@
 -- The words of a lawful content have no fault.
 use Rattle.std.proofs.Common.{◌≡◌, ℕ, zero, suc, ◌+◌, ◌/◌, ◌%◌, ◌<◌, ◌≤◌, Bool, true, false, cond, not, ◌&&◌, ◌||◌, eqb, ltb, leb, List, [], ◌∷◌, ◌++◌, map, length, get_or, take, drop, None, filter, sym, refl, ap, ◌∙◌, subst, ⊎_elim, append_assoc, arith}
-use Rattle.std.specs.List.{AllByRecursion as All}
+use Rattle.std.specs.List.{AllByRecursion}
 use Rattle.std.proofs.lemmas.List.{append-nil, length-append, length_push, map-append, take_at, take_more, take-append-le, take-append-drop, get_or_append_left, get_or_at}
 use Rattle.std.proofs.lemmas.List.Elements.{filter-append}
 use Rattle.std.proofs.ByRecursion.{All-get_or}
@@ -88,7 +88,7 @@ distinct_middle (x ∷ xs) y ys d = or_from' (ne_eqb y x (λ e. absurd (apart xs
 
 -- One owner's words, after xs ys of its choices.
 owner_clean : (s g o : ℕ) (before xs ys : List ℕ) → s ≤ 16 → g ≤ 16 → o < s + g → 1 ≤ length before → UpTo 2 before
-    → every (λ v. leb (high v) o) (of_kind 2 before) ≡ true → ranked_by before o ≡ xs → Distinct (xs ++ ys) → All (λ q. q < facing s g o) ys → length xs + length ys ≤ 16
+    → every (λ v. leb (high v) o) (of_kind 2 before) ≡ true → ranked_by before o ≡ xs → Distinct (xs ++ ys) → AllByRecursion (λ q. q < facing s g o) ys → length xs + length ys ≤ 16
     → Clean s g before (owner_words o (length xs) ys)
 owner_clean s g o before xs [] fs fg inside l u owners ranks d few n = tt
 owner_clean s g o before xs (y ∷ ys) fs fg inside l u owners ranks d few n = (
@@ -130,7 +130,7 @@ owner_clean s g o before xs (y ∷ ys) fs fg inside l u owners ranks d few n = (
         (ap (λ t. eqb (middle w) (length t) && not (among (low w) t)) ranks
         ∙ and_from _ _ (eq-eqb (middle w) (length xs) mw) (ap not (ap (λ q. among q xs) lw ∙ distinct_middle xs y ys d)))
 
-turns_clean : (s g : ℕ) (before ts : List ℕ) → s ≤ 16 → g ≤ 16 → 1 ≤ length before → UpTo 3 before → All (λ p. p < s + g) ts → length (turns_in before) + length ts ≤ 7600
+turns_clean : (s g : ℕ) (before ts : List ℕ) → s ≤ 16 → g ≤ 16 → 1 ≤ length before → UpTo 3 before → AllByRecursion (λ p. p < s + g) ts → length (turns_in before) + length ts ≤ 7600
     → Clean s g before (map turn_word ts)
 turns_clean s g before [] fs fg l u a n = tt
 turns_clean s g before (t ∷ ts) fs fg l u a n = (
@@ -156,12 +156,12 @@ rising_middle : (m : ℕ) (xs ys : List (ℕ × ℕ)) (y : ℕ × ℕ) → m ≡
 rising_middle m [] ys y e r = refl
 rising_middle m (x ∷ xs) ys y e r = and_from _ _ (lt-ltb x.0 m (above xs r.0)) (rising_middle m xs ys y e r.1)
   where
-    above : (zs : List (ℕ × ℕ)) → All (λ z. x.0 < z) (map (λ q. q.0) (zs ++ y ∷ ys)) → x.0 < m
+    above : (zs : List (ℕ × ℕ)) → AllByRecursion (λ z. x.0 < z) (map (λ q. q.0) (zs ++ y ∷ ys)) → x.0 < m
     above [] a = let h = a.0 in omega arith
     above (z ∷ zs) a = above zs a.1
 
 pairs_clean : (s g : ℕ) (before : List ℕ) (xs ps : List (ℕ × ℕ)) → s ≤ 16 → g ≤ 16 → 1 ≤ length before → UpTo 4 before → pairs_in before ≡ xs
-    → All (λ q. q.0 < s) ps → All (λ q. q.1 < g) ps → Rising (map (λ q. q.0) (xs ++ ps)) → Distinct (map (λ q. q.1) (xs ++ ps))
+    → AllByRecursion (λ q. q.0 < s) ps → AllByRecursion (λ q. q.1 < g) ps → Rising (map (λ q. q.0) (xs ++ ps)) → Distinct (map (λ q. q.1) (xs ++ ps))
     → Clean s g before (map pair_word ps)
 pairs_clean s g before xs [] fs fg l u known a b r d = tt
 pairs_clean s g before xs (y ∷ ps) fs fg l u known a b r d = (

@@ -1,6 +1,6 @@
 -- Laws of the words of specs/Lists.
 use Rattle.std.proofs.Common.{◌≡◌, ℕ, zero, suc, ◌+◌, ◌-◌, ◌<◌, ◌≤◌, Bool, true, false, cond, not, ◌&&◌, ◌||◌, eqb, List, [], ◌∷◌, ◌++◌, length, get_or, is_some, Some, None, filter, Option, sym, refl, ap, ◌∙◌, ⊎_elim, add-one, arith}
-use Rattle.std.specs.List.{AllByRecursion as All}
+use Rattle.std.specs.List.{AllByRecursion}
 use Rattle.std.proofs.lemmas.Bool.{and_parts, or_parts, or_from, or_left, or_right, cases_order, cond_both, not-true, not-false, eqb-false, eq-eqb, ne_eqb, eqb-true}
 use Rattle.record.specs.Refusals.{or_else}
 use Rattle.record.specs.Lists.{every, among, Distinct, next, place_in, earliest}
@@ -35,11 +35,11 @@ every_weaker t u f (x ∷ xs) e =
     let p = and_parts (t x) (every t xs) e in
     ap (λ b. b && every u xs) (f x p.0) ∙ every_weaker t u f xs p.1
 
-pub every_all : {X : Type 0} (t : X → Bool) (xs : List X) → every t xs ≡ true → All (λ x. t x ≡ true) xs
+pub every_all : {X : Type 0} (t : X → Bool) (xs : List X) → every t xs ≡ true → AllByRecursion (λ x. t x ≡ true) xs
 every_all t [] e = tt
 every_all t (x ∷ xs) e = let p = and_parts (t x) (every t xs) e in (p.0, every_all t xs p.1)
 
-pub all_every : {X : Type 0} (t : X → Bool) (xs : List X) → All (λ x. t x ≡ true) xs → every t xs ≡ true
+pub all_every : {X : Type 0} (t : X → Bool) (xs : List X) → AllByRecursion (λ x. t x ≡ true) xs → every t xs ≡ true
 all_every t [] a = refl
 all_every t (x ∷ xs) a = ap (λ b. b && every t xs) a.0 ∙ all_every t xs a.1
 
@@ -115,11 +115,11 @@ distinct_kept p [] d = tt
 distinct_kept p (x ∷ xs) d =
     cond_both (p x) (x ∷ filter p xs) (filter p xs) Distinct (λ _. (among_kept x p xs d.0, distinct_kept p xs d.1)) (λ _. distinct_kept p xs d.1)
 
-below_kept : (n : ℕ) (xs : List ℕ) → All (λ x. x < suc n) xs → All (λ x. x < n) (filter (other n) xs)
+below_kept : (n : ℕ) (xs : List ℕ) → AllByRecursion (λ x. x < suc n) xs → AllByRecursion (λ x. x < n) (filter (other n) xs)
 unfolding other
 below_kept n [] a = tt
 below_kept n (x ∷ xs) a =
-    cond_both (other n x) (x ∷ filter (other n) xs) (filter (other n) xs) (All (λ y. y < n))
+    cond_both (other n x) (x ∷ filter (other n) xs) (filter (other n) xs) (AllByRecursion (λ y. y < n))
     (λ e. let h = a.0 in let ne = eqb-false x n (not-true (eqb x n) e) in (omega arith, below_kept n xs a.1))
     (λ _. below_kept n xs a.1)
 
@@ -140,7 +140,7 @@ one_dropped n (x ∷ xs) d =
     (λ e. let s : x ≡ n = eqb-true x n (not-false (eqb x n) e) in
     omega (arith, ap length (kept_absent n xs (ap (λ y. among y xs) (sym s) ∙ d.0))))
 
-pub few_distinct : (n : ℕ) (xs : List ℕ) → Distinct xs → All (λ x. x < n) xs → length xs ≤ n
+pub few_distinct : (n : ℕ) (xs : List ℕ) → Distinct xs → AllByRecursion (λ x. x < n) xs → length xs ≤ n
 few_distinct zero [] d a = omega arith
 few_distinct zero (x ∷ xs) d a = absurd (let h = a.0 in omega arith)
 few_distinct (suc n) xs d a =

@@ -1,6 +1,6 @@
 -- The archive record: what a content is, how a word is built, and which words are the record of a content.
 use Rattle.std.specs.Prelude.{◌≡◌, ℕ, zero, suc, ◌+◌, ◌*◌, ◌<◌, ◌≤◌, cond, List, [], ◌∷◌, ◌++◌, map, length, nat_lt}
-use Rattle.std.specs.List.{AllByRecursion as All}
+use Rattle.std.specs.List.{AllByRecursion}
 use Rattle.record.specs.Lists.{Distinct}
 
 -- What a record stands for. Streams are parties 0 to streams − 1, lane j is party streams + j.
@@ -25,7 +25,7 @@ facing s g p = cond (nat_lt p s) g (cond (nat_lt p (s + g)) s 0)
 -- each number is above the one before it
 abbrev pub Rising : List ℕ → Type 0
 Rising [] = Unit {0}
-Rising (x ∷ xs) = All (λ y. x < y) xs × Rising xs
+Rising (x ∷ xs) = AllByRecursion (λ y. x < y) xs × Rising xs
 
 -- The contents that have a record.
 pub record Lawful (c : Content) : Type 0 where
@@ -33,12 +33,12 @@ pub record Lawful (c : Content) : Type 0 where
   pub few_streams : c.streams ≤ 16
   pub some_lane : 1 ≤ c.lanes
   pub few_lanes : c.lanes ≤ 16
-  pub ranks_the_other_side : (p : ℕ) → All (λ q. q < facing c.streams c.lanes p) (c.ranked p)
+  pub ranks_the_other_side : (p : ℕ) → AllByRecursion (λ q. q < facing c.streams c.lanes p) (c.ranked p)
   pub ranks_nobody_twice : (p : ℕ) → Distinct (c.ranked p)
-  pub turns_of_parties : All (λ p. p < parties c) c.turns
+  pub turns_of_parties : AllByRecursion (λ p. p < parties c) c.turns
   pub few_turns : length c.turns ≤ 7600
-  pub pairs_of_streams : All (λ q. q.0 < c.streams) c.pairs
-  pub pairs_of_lanes : All (λ q. q.1 < c.lanes) c.pairs
+  pub pairs_of_streams : AllByRecursion (λ q. q.0 < c.streams) c.pairs
+  pub pairs_of_lanes : AllByRecursion (λ q. q.1 < c.lanes) c.pairs
   pub streams_rise : Rising (map (λ q. q.0) c.pairs)
   pub no_lane_twice : Distinct (map (λ q. q.1) c.pairs)
 

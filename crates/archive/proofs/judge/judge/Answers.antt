@@ -1,5 +1,5 @@
 use Rattle.std.proofs.Common.{◌≡◌, ℕ, ◌-◌, ◌<◌, ◌≤◌, List, map, length, get_or, take, Some, None, sym, refl, ap, ◌∙◌, subst, arith}
-use Rattle.std.specs.List.{AllByRecursion as All}
+use Rattle.std.specs.List.{AllByRecursion}
 use Rattle.record.specs.Format.{Content, Lawful, Rising, pair_word}
 use Rattle.record.specs.Faults.{middle, pair_of}
 use Rattle.record.proofs.Contents.{pair_bytes}
@@ -22,7 +22,7 @@ lanes_of-lanes-requires c =
     let e = ap (map middle) told.1.1.pair_words ∙ pair_streams content.pairs (pair_bytes content law) in
     record {
       streams_rise = subst Rising (sym e) law.streams_rise;
-      streams_are_few = subst (All (λ x. x < 16)) (sym e) (few_streams_of content law);
+      streams_are_few = subst (AllByRecursion (λ x. x < 16)) (sym e) (few_streams_of content law);
     }
 
 -- a record's own pairing is never refused

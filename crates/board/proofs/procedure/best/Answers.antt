@@ -7,24 +7,24 @@ use Rattle.board.proofs.RankTables.{lawful_table}
 use Rattle.board.proofs.Seeking.{none_content, best_held_content, best_sought, the_party, not_the_party}
 use Rattle.board.proofs.procedure.best.Goals as goal
 
-pub returns-in-err-found : goal.returns-in-err-found
-returns-in-err-found c =
+pub returns-in_err-found : goal.returns-in_err-found
+returns-in_err-found c =
     let m : Market = market_in c.args.ranks.now in
     let σ : State = state_of c.args.rows.now in
-    record { best-or-content = subst (Sought m σ c.args.party) (sym c.from-residual.ensures) (none_content m (lawful_table c.args.ranks.now) σ c.requires.kept c.args.party c.in-err-found.ensures.is-the-best) }
+    record { best_or_content = subst (Sought m σ c.args.party) (sym c.from_residual.ensures) (none_content m (lawful_table c.args.ranks.now) σ c.requires.kept c.args.party c.in_err-found.ensures.is_the_best) }
 
-pub returns-then-is-party : goal.returns-then-is-party
-returns-then-is-party c =
-    let q = c.in-ok-found.found in
+pub returns-then-is_party : goal.returns-then-is_party
+returns-then-is_party c =
+    let q = c.in_ok-found.found in
     record {
-      best-or-content = best_held_content (market_in c.args.ranks.now) (lawful_table c.args.ranks.now) (state_of c.args.rows.now) c.requires.kept c.args.party q c.in-ok-found.ensures.is-the-best
-          (sym c.holding.ensures.is-the-holding ∙ the_party c.holding.result q (sym c.if-is-party.ensures.is-the-test));
+      best_or_content = best_held_content (market_in c.args.ranks.now) (lawful_table c.args.ranks.now) (state_of c.args.rows.now) c.requires.kept c.args.party q c.in_ok-found.ensures.is_the_best
+          (sym c.holding.ensures.is_the_holding ∙ the_party c.holding.result q (sym c.if-is_party.ensures.is_the_test));
     }
 
-pub returns-else-is-party : goal.returns-else-is-party
-returns-else-is-party c =
-    let q = c.in-ok-found.found in
+pub returns-else-is_party : goal.returns-else-is_party
+returns-else-is_party c =
+    let q = c.in_ok-found.found in
     record {
-      best-or-content = best_sought (market_in c.args.ranks.now) (lawful_table c.args.ranks.now) (state_of c.args.rows.now) c.requires.kept c.args.party q c.in-ok-found.ensures.is-the-best
-          (λ e. not_the_party c.holding.result q (sym c.if-is-party.ensures.is-the-test) (c.holding.ensures.is-the-holding ∙ e));
+      best_or_content = best_sought (market_in c.args.ranks.now) (lawful_table c.args.ranks.now) (state_of c.args.rows.now) c.requires.kept c.args.party q c.in_ok-found.ensures.is_the_best
+          (λ e. not_the_party c.holding.result q (sym c.if-is_party.ensures.is_the_test) (c.holding.ensures.is_the_holding ∙ e));
     }

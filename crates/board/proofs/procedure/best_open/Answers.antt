@@ -11,7 +11,7 @@ use Rattle.board.proofs.procedure.best_open.Goals.{then-rank-lowest+then-contain
 
 pub loop-other-init : goal.loop-other-init
 loop-other-init c =
-    (found_none (market_in c.args.ranks.now) (lawful_table c.args.ranks.now) (state_of c.args.rows.now) c.args.party c.other-parties-first.result.0 c.other-parties-first.result.1 c.other-parties-first.ensures.are-the-other-side, omega arith)
+    (found_none (market_in c.args.ranks.now) (lawful_table c.args.ranks.now) (state_of c.args.rows.now) c.args.party c.other_parties-first.result.0 c.other_parties-first.result.1 c.other_parties-first.ensures.are_the_other_side, omega arith)
 
 pub loop-other-preserved : goal.loop-other-preserved
 loop-other-preserved c =
@@ -24,17 +24,17 @@ loop-other-preserved c =
     let found = c.loop-other.found in
     let lowest = c.loop-other.lowest in
     let rank = c.number-rank.result in
-    let is = c.number-rank.ensures.is-the-rank in
-    let in-set = c.open-set-open.ensures.is-the-open-set q in
+    let is = c.number-rank.ensures.is_the_rank in
+    let in-set = c.open_set-open.ensures.is_the_open_set q in
     elim c.if-rank-lowest.branch [
       | then-rank-lowest+then-contains w ↦ (
-        found_better m law σ p q found (rank_from lowest) (rank_from rank) c.if-rank-lowest.found (rank_from c.if-rank-lowest.lowest) inv.0 (sym in-set ∙ sym w.if-contains.ensures.is-membership) is (lower_better rank lowest inv.1 w.if-rank-lowest.true) w.found-is (ap rank_from w.lowest-is),
+        found_better m law σ p q found (rank_from lowest) (rank_from rank) c.if-rank-lowest.found (rank_from c.if-rank-lowest.lowest) inv.0 (sym in-set ∙ sym w.if-contains.ensures.is_membership) is (lower_better rank lowest inv.1 w.if-rank-lowest.true) w.found-is (ap rank_from w.lowest-is),
         omega (arith, w.lowest-is, w.if-rank-lowest.true, inv.1),
       )
       | else-rank-lowest w ↦ (
         found_as_before m law σ p q found (rank_from lowest) c.if-rank-lowest.found (rank_from c.if-rank-lowest.lowest) inv.0
             (λ o. elim w.else-rank-lowest.branch [
-              | else-rank-lowest-via-then-rank-lowest+else-contains v ↦ absurd (both_ways _ (sym v.if-contains.ensures.is-membership) (in-set ∙ o))
+              | else-rank-lowest-via-then-rank-lowest+else-contains v ↦ absurd (both_ways _ (sym v.if-contains.ensures.is_membership) (in-set ∙ o))
               | else-rank-lowest-via-else-rank-lowest v ↦ ap (λ r. prefers r (rank_from lowest)) (sym is) ∙ not_lower_not_better rank lowest inv.1 v.if-rank-lowest.false
             ])
             w.found-is (ap rank_from w.lowest-is),
@@ -44,4 +44,4 @@ loop-other-preserved c =
 
 pub returns : goal.returns
 returns c =
-    record { is-the-best = found_best (market_in c.args.ranks.now) (lawful_table c.args.ranks.now) (state_of c.args.rows.now) c.args.party c.other-parties-first.result.0 c.other-parties-first.result.1 c.loop-other.other c.loop-other.found (rank_from c.loop-other.lowest) c.other-parties-first.ensures.are-the-other-side c.loop-other-test.false c.loop-other.invariant.0 }
+    record { is_the_best = found_best (market_in c.args.ranks.now) (lawful_table c.args.ranks.now) (state_of c.args.rows.now) c.args.party c.other_parties-first.result.0 c.other_parties-first.result.1 c.loop-other.other c.loop-other.found (rank_from c.loop-other.lowest) c.other_parties-first.ensures.are_the_other_side c.loop-other-test.false c.loop-other.invariant.0 }

@@ -8,4 +8,4 @@ pub rank-requires : goal.rank-requires
 rank-requires c =
     let ranks = c.args.ranks.now in
     let rows = c.args.rows.now in
-    record { have-rows = (c.requires.has-a-row, partner_row (market_in ranks) (lawful_table ranks) (state_of rows) c.requires.kept c.args.party c.in-Some.held (sym c.in-Some.ensures.is-the-holding)) }
+    record { have_rows = (c.requires.has_a_row, partner_row (market_in ranks) (lawful_table ranks) (state_of rows) c.requires.kept c.args.party c.in-Some.held (sym c.in-Some.ensures.is_the_holding)) }

@@ -8,28 +8,28 @@ use Rattle.board.proofs.Keeping.{offering, keeps}
 use Rattle.board.proofs.Partners.{offer_rows, partner_has_row}
 use Rattle.board.proofs.procedure.make_offer.Goals as goal
 
-pub takes-offer-taken-requires : goal.takes-offer-taken-requires
-takes-offer-taken-requires c =
+pub takes_offer-taken-requires : goal.takes_offer-taken-requires
+takes_offer-taken-requires c =
     let ranks = c.args.ranks.now in
     let rows = c.args.rows.now in
-    record { kept = c.requires.kept; have-rows = offer_rows (market_in ranks) (lawful_table ranks) (state_of rows) c.requires.kept c.args.p c.args.q c.requires.goes-to-the-best }
+    record { kept = c.requires.kept; have_rows = offer_rows (market_in ranks) (lawful_table ranks) (state_of rows) c.requires.kept c.args.p c.args.q c.requires.goes_to_the_best }
 
-pub wronged-by-wronged-by-p-requires : goal.wronged-by-wronged-by-p-requires
-wronged-by-wronged-by-p-requires c =
+pub wronged_by-wronged_by_p-requires : goal.wronged_by-wronged_by_p-requires
+wronged_by-wronged_by_p-requires c =
     let ranks = c.args.ranks.now in
     let rows = c.args.rows.now in
     record {
-      has-a-row = (offer_rows (market_in ranks) (lawful_table ranks) (state_of rows) c.requires.kept c.args.p c.args.q c.requires.goes-to-the-best).0;
-      partner-has-a-row = partner_has_row (market_in ranks) (lawful_table ranks) (state_of rows) c.requires.kept c.args.p;
+      has_a_row = (offer_rows (market_in ranks) (lawful_table ranks) (state_of rows) c.requires.kept c.args.p c.args.q c.requires.goes_to_the_best).0;
+      partner_has_a_row = partner_has_row (market_in ranks) (lawful_table ranks) (state_of rows) c.requires.kept c.args.p;
     }
 
-pub wronged-by-wronged-by-q-requires : goal.wronged-by-wronged-by-q-requires
-wronged-by-wronged-by-q-requires c =
+pub wronged_by-wronged_by_q-requires : goal.wronged_by-wronged_by_q-requires
+wronged_by-wronged_by_q-requires c =
     let ranks = c.args.ranks.now in
     let rows = c.args.rows.now in
     record {
-      has-a-row = (offer_rows (market_in ranks) (lawful_table ranks) (state_of rows) c.requires.kept c.args.p c.args.q c.requires.goes-to-the-best).1;
-      partner-has-a-row = partner_has_row (market_in ranks) (lawful_table ranks) (state_of rows) c.requires.kept c.args.q;
+      has_a_row = (offer_rows (market_in ranks) (lawful_table ranks) (state_of rows) c.requires.kept c.args.p c.args.q c.requires.goes_to_the_best).1;
+      partner_has_a_row = partner_has_row (market_in ranks) (lawful_table ranks) (state_of rows) c.requires.kept c.args.q;
     }
 
 pub settle-requires : goal.settle-requires
@@ -37,8 +37,8 @@ settle-requires c =
     let ranks = c.args.ranks.now in
     let rows = c.args.rows.now in
     record {
-      have-rows = offer_rows (market_in ranks) (lawful_table ranks) (state_of rows) c.requires.kept c.args.p c.args.q c.requires.goes-to-the-best;
-      partners-have-rows = (partner_has_row (market_in ranks) (lawful_table ranks) (state_of rows) c.requires.kept c.args.p, partner_has_row (market_in ranks) (lawful_table ranks) (state_of rows) c.requires.kept c.args.q);
+      have_rows = offer_rows (market_in ranks) (lawful_table ranks) (state_of rows) c.requires.kept c.args.p c.args.q c.requires.goes_to_the_best;
+      partners_have_rows = (partner_has_row (market_in ranks) (lawful_table ranks) (state_of rows) c.requires.kept c.args.p, partner_has_row (market_in ranks) (lawful_table ranks) (state_of rows) c.requires.kept c.args.q);
     }
 
 pub returns : goal.returns
@@ -50,10 +50,10 @@ returns c =
     let q = c.args.q in
     let law = lawful_table ranks in
     record {
-      taken-by-the-rule = c.takes-offer-taken.ensures.is-the-rule;
-      wronged-by-p-leaving = c.wronged-by-wronged-by-p.ensures.is-the-wronged;
-      wronged-by-q-leaving = c.wronged-by-wronged-by-q.ensures.is-the-wronged;
-      board-after-it = c.settle.ensures.settled;
-      stays-kept = subst (Kept m) (sym c.settle.ensures.settled)
-          (keeps m law c.args.waiting σ c.requires.kept p q c.takes-offer-taken.result (offering m law σ c.requires.kept p q c.requires.goes-to-the-best.sought) (sym c.takes-offer-taken.ensures.is-the-rule));
+      taken_by_the_rule = c.takes_offer-taken.ensures.is_the_rule;
+      wronged_by_p_leaving = c.wronged_by-wronged_by_p.ensures.is_the_wronged;
+      wronged_by_q_leaving = c.wronged_by-wronged_by_q.ensures.is_the_wronged;
+      board_after_it = c.settle.ensures.settled;
+      stays_kept = subst (Kept m) (sym c.settle.ensures.settled)
+          (keeps m law c.args.waiting σ c.requires.kept p q c.takes_offer-taken.result (offering m law σ c.requires.kept p q c.requires.goes_to_the_best.sought) (sym c.takes_offer-taken.ensures.is_the_rule));
     }

@@ -9,8 +9,8 @@ returns-in-Some c =
     let m = market_in c.args.ranks.now in
     record {
       ran = subst (λ o. Owed m c.args.waiting o (state_of c.args.rows.now) (state_of c.chain.new.rows) c.chain.result 1) (sym c.in-Some.is) (chain c.chain.ensures.ran);
-      has-few-offers = (c.chain.ensures.has-few-offers, omega arith);
-      stays-kept = c.chain.ensures.stays-kept;
+      has_few_offers = (c.chain.ensures.has_few_offers, omega arith);
+      stays_kept = c.chain.ensures.stays_kept;
     }
 
 pub returns-in-None : goal.returns-in-None
@@ -19,6 +19,6 @@ returns-in-None c =
     let σ = state_of c.args.rows.now in
     record {
       ran = subst (λ o. Owed m c.args.waiting o σ σ 0 0) (sym c.in-None.is) nobody;
-      has-few-offers = (omega arith, omega arith);
-      stays-kept = c.requires.kept;
+      has_few_offers = (omega arith, omega arith);
+      stays_kept = c.requires.kept;
     }

@@ -20,15 +20,15 @@ loop-lane-preserved g c =
     let table = c.loop-lane.table in
     let i = c.loop-stream.stream in
     let j = c.loop-lane.lane in
-    let one = c.place-of.result in
-    let other = c.place-of-in-loop-lane.result in
-    let v = c.rank-number.result in
-    let w = c.rank-number-in-loop-lane.result in
-    let streams = c.requires.are-its-sizes.0 in (
+    let one = c.place_of.result in
+    let other = c.place_of-in-loop-lane.result in
+    let v = c.rank_number.result in
+    let w = c.rank_number-in-loop-lane.result in
+    let streams = c.requires.are_its_sizes.0 in (
       length-set (set table one v) other w ∙ length-set table one v ∙ c.loop-lane.invariant.0,
-      pair_put (rank_across x) table c.args.streams i j one other v w c.loop-lane.invariant.0 c.place-of.ensures.is-in-the-table.0 c.place-of-in-loop-lane.ensures.is-in-the-table.0 (omega arith) (omega arith)
-          (c.rank-number.ensures.is-the-number ∙ c.rank-by-stream.ensures.is-the-streams-rank ∙ sym (rank_stream x i j (omega arith)) ∙ ap (λ s. rank_across x i (s + j)) (sym streams))
-          (c.rank-number-in-loop-lane.ensures.is-the-number ∙ c.rank-by-lane.ensures.is-the-lanes-rank ∙ sym (rank_lane x j i (omega arith)) ∙ ap (λ s. rank_across x (s + j) i) (sym streams))
+      pair_put (rank_across x) table c.args.streams i j one other v w c.loop-lane.invariant.0 c.place_of.ensures.is_in_the_table.0 c.place_of-in-loop-lane.ensures.is_in_the_table.0 (omega arith) (omega arith)
+          (c.rank_number.ensures.is_the_number ∙ c.rank_by_stream.ensures.is_the_streams_rank ∙ sym (rank_stream x i j (omega arith)) ∙ ap (λ s. rank_across x i (s + j)) (sym streams))
+          (c.rank_number-in-loop-lane.ensures.is_the_number ∙ c.rank_by_lane.ensures.is_the_lanes_rank ∙ sym (rank_lane x j i (omega arith)) ∙ ap (λ s. rank_across x (s + j) i) (sym streams))
           c.loop-lane.invariant.1,
     )
 
@@ -41,7 +41,7 @@ loop-stream-preserved g c =
     let j = c.loop-lane.lane in (
       c.loop-lane.invariant.0,
       λ p q. all_lanes_put (rank_across x) (market_of x) (no_rank_beside (market_of x) law) i j p q _ (omega arith) (omega arith)
-          (c.loop-lane.invariant.1 p q ∙ ap (λ s. cond (settled s i j p q) (rank_across x p q) None) c.requires.are-its-sizes.0),
+          (c.loop-lane.invariant.1 p q ∙ ap (λ s. cond (settled s i j p q) (rank_across x p q) None) c.requires.are_its_sizes.0),
     )
 
 pub returns : goal.returns
@@ -49,4 +49,4 @@ returns g c =
     let r = c.args.ranking.now in
     let x : Meaning = g.R.Ranking.meaning r in
     let law = lawful_market x (g.met.R.Ranking.sized r) (g.met.R.Ranking.bounded r) (g.met.R.Ranking.strict r) in
-    record { are-its-ranks = λ p q. all_put (rank_across x) (market_of x) (no_rank_beside (market_of x) law) c.loop-stream.stream p q _ (omega arith) (c.loop-stream.invariant.1 p q) }
+    record { are_its_ranks = λ p q. all_put (rank_across x) (market_of x) (no_rank_beside (market_of x) law) c.loop-stream.stream p q _ (omega arith) (c.loop-stream.invariant.1 p q) }

@@ -14,12 +14,12 @@ pub returns-then-party-streams : goal.returns-then-party-streams
 returns-then-party-streams c =
     let s = c.args.streams in
     let g = c.args.lanes in
-    let few = c.requires.there-are-few in
-    record { is-the-other-side = λ m e f j. c.range.ensures.has-the-range j ∙ lanes_across m s g c.args.party j e f few.0 few.1 c.if-party-streams.true }
+    let few = c.requires.there_are_few in
+    record { is_the_other_side = λ m e f j. c.range.ensures.has_the_range j ∙ lanes_across m s g c.args.party j e f few.0 few.1 c.if-party-streams.true }
 
 pub returns-else-party-streams : goal.returns-else-party-streams
 returns-else-party-streams c =
     let s = c.args.streams in
     let g = c.args.lanes in
-    let few = c.requires.there-are-few in
-    record { is-the-other-side = λ m e f j. c.range-else-party-streams.ensures.has-the-range j ∙ streams_across m s g c.args.party j e f few.0 few.1 c.if-party-streams.false few.2 }
+    let few = c.requires.there_are_few in
+    record { is_the_other_side = λ m e f j. c.range-else-party-streams.ensures.has_the_range j ∙ streams_across m s g c.args.party j e f few.0 few.1 c.if-party-streams.false few.2 }

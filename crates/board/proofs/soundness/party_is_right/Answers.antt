@@ -4,27 +4,27 @@ use Rattle.board.specs.Meaning.{state_of, market_in}
 use Rattle.board.proofs.Checking.{held_part, open_part, sides_part, all_parts}
 use Rattle.board.proofs.soundness.party_is_right.Goals as goal
 
-pub returns-then-not-holding-is-right : goal.returns-then-not-holding-is-right
-returns-then-not-holding-is-right c =
+pub returns-then-not-holding_is_right : goal.returns-then-not-holding_is_right
+returns-then-not-holding_is_right c =
     let m = market_in c.args.ranks.now in
     let σ = state_of c.args.rows.now in
-    record { says-whether = (λ e. absurd (both_ways false refl e), λ f. sym c.if-not-holding-is-right.true ∙ c.holding-is-right.ensures.says-whether.1 (held_part m σ c.args.a f)); of-32-rows = λ e. absurd (both_ways false refl e) }
+    record { says_whether = (λ e. absurd (both_ways false refl e), λ f. sym c.if-not-holding_is_right.true ∙ c.holding_is_right.ensures.says_whether.1 (held_part m σ c.args.a f)); of_32_rows = λ e. absurd (both_ways false refl e) }
 
-pub returns-then-not-pairs-are-right : goal.returns-then-not-pairs-are-right
-returns-then-not-pairs-are-right c =
+pub returns-then-not-pairs_are_right : goal.returns-then-not-pairs_are_right
+returns-then-not-pairs_are_right c =
     let m = market_in c.args.ranks.now in
     let σ = state_of c.args.rows.now in
-    record { says-whether = (λ e. absurd (both_ways false refl e), λ f. sym c.if-not-pairs-are-right.true ∙ c.pairs-are-right.ensures.says-whether.1 (open_part m σ c.args.a f)); of-32-rows = λ e. absurd (both_ways false refl e) }
+    record { says_whether = (λ e. absurd (both_ways false refl e), λ f. sym c.if-not-pairs_are_right.true ∙ c.pairs_are_right.ensures.says_whether.1 (open_part m σ c.args.a f)); of_32_rows = λ e. absurd (both_ways false refl e) }
 
 pub returns : goal.returns
 returns c =
     let m = market_in c.args.ranks.now in
     let σ = state_of c.args.rows.now in
     let a = c.args.a in
-    let held = c.holding-is-right.ensures.says-whether.0 c.if-not-holding-is-right.false in
-    let open-right = c.pairs-are-right.ensures.says-whether.0 c.if-not-pairs-are-right.false in
-    let sides = c.sets-are-right.ensures.says-whether in
+    let held = c.holding_is_right.ensures.says_whether.0 c.if-not-holding_is_right.false in
+    let open-right = c.pairs_are_right.ensures.says_whether.0 c.if-not-pairs_are_right.false in
+    let sides = c.sets_are_right.ensures.says_whether in
     record {
-      says-whether = (λ e. all_parts m σ a held open-right (sides.0 e), λ f. sides.1 (sides_part m σ a f));
-      of-32-rows = λ e. (c.holding-is-right.ensures.of-32-rows, (c.sets-are-right.ensures.of-32-rows e).0, (c.sets-are-right.ensures.of-32-rows e).1);
+      says_whether = (λ e. all_parts m σ a held open-right (sides.0 e), λ f. sides.1 (sides_part m σ a f));
+      of_32_rows = λ e. (c.holding_is_right.ensures.of_32_rows, (c.sets_are_right.ensures.of_32_rows e).0, (c.sets_are_right.ensures.of_32_rows e).1);
     }

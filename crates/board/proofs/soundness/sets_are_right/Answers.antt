@@ -8,17 +8,17 @@ both x y c f g = grind arith
 either : (x y c : Bool) → (not (x || y) || c) ≡ true → y ≡ true → c ≡ true
 either x y c e f = grind arith
 
-pub returns-then-is-within : goal.returns-then-is-within
-returns-then-is-within c =
-    let open_is = c.open-set.ensures.is-the-open-set in
-    let bidders-are = c.bidders-of.ensures.is-the-set-of-bidders in
-    let others = c.facing-others.ensures.is-the-other-side in
-    let first = c.if-is-within.ensures.says-whether.0 refl in
-    let second = c.is-within-then-is-within.ensures.says-whether in
+pub returns-then-is_within : goal.returns-then-is_within
+returns-then-is_within c =
+    let open_is = c.open_set.ensures.is_the_open_set in
+    let bidders-are = c.bidders_of.ensures.is_the_set_of_bidders in
+    let others = c.facing-others.ensures.is_the_other_side in
+    let first = c.if-is_within.ensures.says_whether.0 refl in
+    let second = c.is_within-then-is_within.ensures.says_whether in
     record {
-      says-whether = (
+      says_whether = (
         λ e b. both _ _ _ (λ o. sym (others b) ∙ first b (open_is b ∙ o)) (λ o. sym (others b) ∙ second.0 e b (bidders-are b ∙ o)),
         λ f. second.1 (λ b o. others b ∙ either _ _ _ (f b) (sym (bidders-are b) ∙ o)),
       );
-      of-32-rows = λ _. (c.open-set.ensures.of-32-rows, c.bidders-of.ensures.of-32-rows);
+      of_32_rows = λ _. (c.open_set.ensures.of_32_rows, c.bidders_of.ensures.of_32_rows);
     }

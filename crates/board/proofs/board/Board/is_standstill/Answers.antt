@@ -11,8 +11,8 @@ returns g c =
     let t = c.args.self.now.tables in
     let m = market_at t in
     let σ = state_at t in
-    let says = c.is-standstill.ensures.says-whether in
+    let says = c.is_standstill.ensures.says_whether in
     record {
-      says-whether = says;
-      standstill-is-stable = λ e. subst (Stable m) (sym (pairing_holds m (lawful_table t.ranks) σ t.kept)) (standstill_stable m (lawful_table t.ranks) σ t.kept (says.0 e));
+      says_whether = says;
+      standstill_is_stable = λ e. subst (Stable m) (sym (pairing_holds m (lawful_table t.ranks) σ t.kept)) (standstill_stable m (lawful_table t.ranks) σ t.kept (says.0 e));
     }

@@ -9,10 +9,10 @@ pub returns : goal.returns
 returns g c =
     let t = c.args.self.now.tables in
     let m = market_at t in
-    let is = c.pairing.ensures.is-the-pairing in
+    let is = c.pairing.ensures.is_the_pairing in
     record {
-      is-the-pairing = is;
-      has-nobody-past-the-streams = c.pairing.ensures.has-nobody-past-the-streams;
-      is-a-lawful-pairing = subst (LawfulPairing m) (sym is) (pairing_lawful m (lawful_table t.ranks) (state_at t) t.kept);
-      holds-as-the-board = ap (holding_of m) is ∙ pairing_holds m (lawful_table t.ranks) (state_at t) t.kept;
+      is_the_pairing = is;
+      has_nobody_past_the_streams = c.pairing.ensures.has_nobody_past_the_streams;
+      is_a_lawful_pairing = subst (LawfulPairing m) (sym is) (pairing_lawful m (lawful_table t.ranks) (state_at t) t.kept);
+      holds_as_the_board = ap (holding_of m) is ∙ pairing_holds m (lawful_table t.ranks) (state_at t) t.kept;
     }

@@ -5,32 +5,32 @@ use Rattle.board.proofs.Outcomes.{one_outcome}
 use Rattle.board.proofs.Computing.{turn_computed}
 use Rattle.board.proofs.board.Board.turn.Goals as goal
 
-pub returns-in-err-check-party : goal.returns-in-err-check-party
-returns-in-err-check-party g c =
-    let p = err_from_is_err_and c.from-residual.result c.from-residual.ensures.1 in
+pub returns-in_err-check_party : goal.returns-in_err-check_party
+returns-in_err-check_party g c =
+    let p = err_from_is_err_and c.from_residual.result c.from_residual.ensures.1 in
     rw (p.1, p.2) (record {
-      refused-as-told = c.in-err-check-party.ensures.refused-as-told;
-      turned-as-told = tt;
-      has-few-offers = tt;
-      has-few-chains = tt;
-      refused-changes-nothing = refl;
-      ranking-unchanged = refl;
-      market-unchanged = refl;
-      has-one-outcome = one_outcome;
-      has-a-computed-form = turn_computed;
+      refused_as_told = c.in_err-check_party.ensures.refused_as_told;
+      turned_as_told = tt;
+      has_few_offers = tt;
+      has_few_chains = tt;
+      refused_changes_nothing = refl;
+      ranking_unchanged = refl;
+      market_unchanged = refl;
+      has_one_outcome = one_outcome;
+      has_a_computed_form = turn_computed;
     })
 
 pub returns : goal.returns
 returns g c =
     let turn = c.turn.ensures in
     record {
-      refused-as-told = c.in-ok-check-party.ensures.refused-as-told;
-      turned-as-told = turn.turned;
-      has-few-offers = turn.has-few-offers;
-      has-few-chains = turn.has-few-chains;
-      refused-changes-nothing = tt;
-      ranking-unchanged = refl;
-      market-unchanged = ap market_in turn.ranks-unchanged;
-      has-one-outcome = one_outcome;
-      has-a-computed-form = turn_computed;
+      refused_as_told = c.in_ok-check_party.ensures.refused_as_told;
+      turned_as_told = turn.turned;
+      has_few_offers = turn.has_few_offers;
+      has_few_chains = turn.has_few_chains;
+      refused_changes_nothing = tt;
+      ranking_unchanged = refl;
+      market_unchanged = ap market_in turn.ranks_unchanged;
+      has_one_outcome = one_outcome;
+      has_a_computed_form = turn_computed;
     }

@@ -5,16 +5,16 @@ use Rattle.board.specs.RankTables.{table_market}
 use Rattle.board.proofs.RankTables.{across_law, strict_law, same_market}
 use Rattle.board.proofs.rank_table.RankTable.of.Goals as goal
 
-pub invariant-of-result : goal.invariant-of-result
-invariant-of-result g c =
+pub invariant_of-result : goal.invariant_of-result
+invariant_of-result g c =
     let r = c.args.ranking.now in
     let x : Meaning = g.R.Ranking.meaning r in
-    let m : Market = table_market c.streams-streams.result c.lanes-lanes.result c.ranks-of-table.result in
-    let e : m ≡ market_of x = same_market _ _ _ (market_of x) c.streams-streams.ensures.is-the-stream-count c.lanes-lanes.ensures.is-the-lane-count c.ranks-of-table.ensures.are-its-ranks in
+    let m : Market = table_market c.streams-streams.result c.lanes-lanes.result c.ranks_of-table.result in
+    let e : m ≡ market_of x = same_market _ _ _ (market_of x) c.streams-streams.ensures.is_the_stream_count c.lanes-lanes.ensures.is_the_lane_count c.ranks_of-table.ensures.are_its_ranks in
     let law : LawfulMarket m = subst LawfulMarket (sym e) (lawful_market x (g.met.R.Ranking.sized r) (g.met.R.Ranking.bounded r) (g.met.R.Ranking.strict r)) in
-    (law.sized, (across_law m law, (strict_law m law, tt)))
+    record { sizes = law.sized; sides = across_law m law; strict = strict_law m law }
 
 pub returns : goal.returns
 returns g c =
     let x : Meaning = g.R.Ranking.meaning c.args.ranking.now in
-    record { is-its-market = same_market _ _ _ (market_of x) c.streams-streams.ensures.is-the-stream-count c.lanes-lanes.ensures.is-the-lane-count c.ranks-of-table.ensures.are-its-ranks }
+    record { is_its_market = same_market _ _ _ (market_of x) c.streams-streams.ensures.is_the_stream_count c.lanes-lanes.ensures.is_the_lane_count c.ranks_of-table.ensures.are_its_ranks }

@@ -4,8 +4,8 @@ use Rattle.board.specs.Kept.{Kept}
 use Rattle.board.specs.Meaning.{state_of}
 use Rattle.board.proofs.tables.Tables.from_rows.Goals as goal
 
-pub returns-else-is-kept : goal.returns-else-is-kept
-returns-else-is-kept g c = record {
-  only-kept-rows = λ k.
-      both_ways _ c.if-is-kept.false (c.is-kept.ensures.says-whether.1 (subst (λ m. Kept m (state_of c.args.rows)) (sym c.of-ranks.ensures.is-its-market) k));
+pub returns-else-is_kept : goal.returns-else-is_kept
+returns-else-is_kept g c = record {
+  only_kept_rows = λ k.
+      both_ways _ c.if-is_kept.false (c.is_kept.ensures.says_whether.1 (subst (λ m. Kept m (state_of c.args.rows)) (sym c.of-ranks.ensures.is_its_market) k));
 }

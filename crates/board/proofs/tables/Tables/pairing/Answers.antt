@@ -8,10 +8,10 @@ use Rattle.board.proofs.tables.Tables.pairing.Goals as goal
 pub loop-stream-init : goal.loop-stream-init
 loop-stream-init c = (refl, λ i h. absurd (omega arith), λ i _ h. get_or-replicate 16 i 255 0 h)
 
-pub lane-byte-requires : goal.lane-byte-requires
-lane-byte-requires c =
+pub lane_byte-requires : goal.lane_byte-requires
+lane_byte-requires c =
     let t = c.args.self.now in
-    record { is-a-lane = subst (λ o. IfSome o (λ q. t.ranks.streams ≤ q)) (sym c.holding.ensures.is-the-holding) (stream_holds_lane (market_at t) (lawful_table t.ranks) (state_at t) t.kept c.loop-stream.stream (omega arith)) }
+    record { is_a_lane = subst (λ o. IfSome o (λ q. t.ranks.streams ≤ q)) (sym c.holding.ensures.is_the_holding) (stream_holds_lane (market_at t) (lawful_table t.ranks) (state_at t) t.kept c.loop-stream.stream (omega arith)) }
 
 pub loop-stream-preserved : goal.loop-stream-preserved
 loop-stream-preserved c =
@@ -19,8 +19,8 @@ loop-stream-preserved c =
     let lanes = c.loop-stream.lanes in
     let i = c.loop-stream.stream in
     let inv = c.loop-stream.invariant in
-    let byte = c.lane-byte.result in
-    let is : byte ≡ lane_byte t.ranks.streams ((state_at t).holding i) = c.lane-byte.ensures.is-the-byte ∙ ap (lane_byte t.ranks.streams) c.holding.ensures.is-the-holding in (
+    let byte = c.lane_byte.result in
+    let is : byte ≡ lane_byte t.ranks.streams ((state_at t).holding i) = c.lane_byte.ensures.is_the_byte ∙ ap (lane_byte t.ranks.streams) c.holding.ensures.is_the_holding in (
       length-set lanes i byte ∙ inv.0,
       below_more (λ k. get_or (set lanes i byte) k 0 ≡ lane_byte t.ranks.streams ((state_at t).holding k)) i
           (λ k h. get_or-set_other lanes i k byte 0 (omega arith) ∙ inv.1 k h)
@@ -34,6 +34,6 @@ returns c =
     let inv = c.loop-stream.invariant in
     let all : c.loop-stream.stream ≡ t.ranks.streams = omega arith in
     record {
-      is-the-pairing = pairing_is (market_at t) (lawful_table t.ranks) (state_at t) t.kept c.loop-stream.lanes (omega arith) (λ i h. inv.1 i (omega arith));
-      has-nobody-past-the-streams = λ i h l. inv.2 i (omega arith) l;
+      is_the_pairing = pairing_is (market_at t) (lawful_table t.ranks) (state_at t) t.kept c.loop-stream.lanes (omega arith) (λ i h. inv.1 i (omega arith));
+      has_nobody_past_the_streams = λ i h l. inv.2 i (omega arith) l;
     }
