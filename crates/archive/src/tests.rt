@@ -138,7 +138,7 @@ fn text_of_a_record(rt: HostRuntime) -> Result<(), Fail> {
     let judged = judge(&SQUARE)?;
     let length = judged_text(&judged, &mut text)?;
     assert!(rt; length == 19 && text[19] == 7);
-    assert!(rt; &text[0..19] == b"S0 L0\nS1 L1\nstable\n");
+    assert!(rt; &text[0..19] == b"S0 L0\nS1 L1\nstable\n".as_slice());
     Ok(())
 }
 
@@ -147,7 +147,7 @@ fn text_of_a_refusal(rt: HostRuntime) -> Result<(), Fail> {
     let mut text = [7u8; TEXT_ROOM];
     let length = refusal_text(Refusal::Turns(65535), &mut text)?;
     assert!(rt; length == 20 && text[20] == 7);
-    assert!(rt; &text[0..20] == b"refused 10 at 65535\n");
+    assert!(rt; &text[0..20] == b"refused 10 at 65535\n".as_slice());
     let mut short = [7u8; 511];
     assert!(rt; refusal_text(Refusal::Filled, &mut short) == Err(Refusal::Room(512)));
     assert!(rt; short[0] == 7);
