@@ -1,6 +1,6 @@
 -- Texts written one after the other.
-use Rattle.std.proofs.Common.{◌≡◌, ℕ, suc, ◌+◌, ◌-◌, ◌<◌, ◌≤◌, List, [], ◌∷◌, ◌++◌, length, get_or, take, drop, set, sym, refl, ap, ◌∙◌, subst, append_assoc, zero-add, arith}
-use Rattle.std.proofs.lemmas.List.{length-append, length-set, take_more_set, drop-set-lt, drop-drop, take_more, take_all, append-nil, length-take-le}
+use Rattle.std.proofs.Common.{◌≡◌, ℕ, suc, ◌+◌, ◌<◌, ◌≤◌, List, [], ◌∷◌, ◌++◌, length, get_or, take, drop, set, sym, refl, ap, ◌∙◌, subst, append_assoc, zero-add, arith}
+use Rattle.std.proofs.lemmas.List.{length-append, length-set, take_more_set, drop-set-lt, drop-drop, take_more, append-nil, length-take-le}
 use Rattle.record.specs.Bytes.{WrittenFront}
 use Rattle.archive.specs.Texts.{Wrote, pair_line}
 use Rattle.archive.specs.Judging.{pair_lines}

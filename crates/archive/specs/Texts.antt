@@ -1,5 +1,5 @@
 -- Text, as bytes: what stands in a line, and how a text comes into a caller's list.
-use Rattle.std.specs.Prelude.{◌≡◌, ℕ, ◌+◌, Bool, cond, List, [], ◌∷◌, ◌++◌, length, take, drop, codes, decimal, ◌==◌}
+use Rattle.std.specs.Prelude.{◌≡◌, ℕ, ◌+◌, cond, List, [], ◌∷◌, ◌++◌, length, take, drop, codes, decimal, ◌==◌}
 use Rattle.ranking.specs.declared.finder.Finding.{Finding}
 
 -- a text was written into a list from a place on: the next place, the list up to there, and the rest as it was

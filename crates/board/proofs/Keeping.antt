@@ -1,13 +1,13 @@
 -- Every offer keeps what every board keeps.
-use Rattle.std.proofs.Common.{◌≡◌, ℕ, ◌+◌, ◌<◌, ◌≤◌, Bool, true, false, cond, not, ◌&&◌, ◌||◌, eqb, ltb, leb, ◌⊎◌, is_some as option_is_some, Some, None, Option, sym, refl, ap, ◌∙◌, inl, inr, ⊎_elim, arith}
-use Rattle.std.proofs.lemmas.Bool.{and_parts, and_from, both_ways, cases_Bool, eqb-true}
+use Rattle.std.proofs.Common.{◌≡◌, ℕ, ◌<◌, Bool, true, false, not, ◌&&◌, ◌||◌, is_some as option_is_some, Some, None, Option, sym, refl, ap, ◌∙◌, arith}
+use Rattle.std.proofs.lemmas.Bool.{and_parts, and_from, both_ways, eqb-true}
 use Rattle.std.proofs.lemmas.Bool.Decides.{nat_tests}
-use Rattle.ranking.specs.Market.{Market, prefers, LawfulMarket}
+use Rattle.ranking.specs.Market.{Market, LawfulMarket}
 use Rattle.board.proofs.Sides.{sides_law}
 use Rattle.board.specs.Sides.{across, party_count}
 use Rattle.ranking.specs.Stability.{is_party, holds, held_rank, wants}
 use Rattle.ranking.proofs.Blocking.{prefers_some, held_unwanted}
-use Rattle.board.specs.State.{State, seeks, Best}
+use Rattle.board.specs.State.{State, seeks}
 use Rattle.board.specs.Offer.{with_member, offered, takes}
 use Rattle.board.specs.Kept.{offer_between, held_right, open_right, sides_right, Kept}
 use Rattle.board.proofs.Offers.{held_after, open_after, held_taken, open_taken, bidder_taken}

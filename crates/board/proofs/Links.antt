@@ -1,14 +1,14 @@
 -- A chain in the making: what its offers so far leave to do.
-use Rattle.std.proofs.Common.{◌≡◌, ℕ, suc, ◌+◌, ◌*◌, ◌<◌, ◌≤◌, Bool, true, false, cond, not, ltb, ◌⊎◌, Some, None, Option, sym, refl, ap, ◌∙◌, subst, inl, inr, add-zero, zero-add, arith}
+use Rattle.std.proofs.Common.{◌≡◌, ℕ, suc, ◌+◌, ◌*◌, ◌<◌, ◌≤◌, Bool, true, false, cond, not, ltb, Some, None, Option, sym, refl, ap, ◌∙◌, subst, add-zero, zero-add, arith}
 use Rattle.ranking.specs.Market.{Market, LawfulMarket}
-use Rattle.board.specs.Sides.{across, party_count}
+use Rattle.board.specs.Sides.{party_count}
 use Rattle.board.specs.State.{State, Content, Best}
 use Rattle.board.specs.Offer.{offered, takes, wronged}
 use Rattle.board.specs.Turn.{Chain, Owed, Turn}
 use Rattle.board.specs.Turn.Turn.{moves}
 use Rattle.board.specs.Turn.Chain.{content, refused, passed, ended}
 use Rattle.board.specs.Kept.{Kept}
-use Rattle.board.proofs.Keeping.{Offering, offering, keeps, held_facts, ranked_across, across_swap}
+use Rattle.board.proofs.Keeping.{Offering, offering, held_facts, ranked_across}
 use Rattle.board.proofs.Rooms.{room, room_most, room_some, room_left, room_passed, on_side}
 use Rattle.board.proofs.Partners.{held, wronged_held, partner_below}
 

@@ -1,8 +1,8 @@
 -- The rows of a new board.
-use Rattle.std.proofs.Common.{◌≡◌, ℕ, ◌+◌, ◌<◌, ◌≤◌, Bool, true, false, ◌&&◌, eqb, ltb, leb, ◌⊎◌, List, length, get_or, set, replicate, Some, None, Option, sym, refl, ap, ◌∙◌, inl, inr, ⊎_elim, arith}
+use Rattle.std.proofs.Common.{◌≡◌, ℕ, ◌+◌, ◌<◌, Bool, false, ◌&&◌, ltb, List, length, set, replicate, None, sym, ap, ◌∙◌, ⊎_elim, arith}
 use mathlib.Core.Path.{fun_ext}
 use Rattle.std.proofs.lemmas.List.{get_or-set_same, get_or-set_other, get_or_past, get_or-replicate}
-use Rattle.std.proofs.lemmas.Bool.{cases_eq, cases_lt, both_ways}
+use Rattle.std.proofs.lemmas.Bool.{cases_eq, cases_lt}
 use Rattle.std.proofs.lemmas.Bool.Decides.{nat_tests}
 use Rattle.sets.specs.Sets.{has}
 use Rattle.sets.specs.declared.Members.{Members}
@@ -10,7 +10,7 @@ use Rattle.sets.proofs.Bits.{has_none}
 use Rattle.ranking.specs.Market.{Market}
 use Rattle.board.specs.Sides.{across}
 use Rattle.board.specs.Sides.{party_named}
-use Rattle.board.specs.State.{State, new_state}
+use Rattle.board.specs.State.{new_state}
 use Rattle.board.specs.Meaning.{no_members, in_set, held_in, state_of}
 
 -- where no set has a member, nobody is in any set

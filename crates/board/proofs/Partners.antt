@@ -1,13 +1,13 @@
 -- Partners are parties.
-use Rattle.std.proofs.Common.{◌≡◌, ℕ, ◌+◌, ◌<◌, ◌≤◌, Bool, true, false, cond, IfSome, Some, None, Option, sym, refl, ap, ◌∙◌, arith}
-use Rattle.std.proofs.lemmas.Bool.{eq-eqb, both_ways}
+use Rattle.std.proofs.Common.{◌≡◌, ℕ, ◌<◌, Bool, true, false, cond, IfSome, Some, None, Option, refl, ap, ◌∙◌, arith}
+use Rattle.std.proofs.lemmas.Bool.{eq-eqb}
 use Rattle.ranking.specs.Market.{Market, LawfulMarket}
-use Rattle.board.specs.Sides.{across, party_count}
+use Rattle.board.specs.Sides.{party_count}
 use Rattle.ranking.specs.Stability.{is_party, holds}
 use Rattle.board.specs.State.{State, Best}
 use Rattle.board.specs.Offer.{wronged, wronged_by}
 use Rattle.board.specs.Kept.{Kept}
-use Rattle.board.proofs.Keeping.{HeldFacts, held_facts, Offering, offering, ranked_across, across_below}
+use Rattle.board.proofs.Keeping.{held_facts, offering, ranked_across, across_below}
 
 module _ (m : Market) (law : LawfulMarket m) (σ : State) (kept : Kept m σ) where
   -- whom a party holds

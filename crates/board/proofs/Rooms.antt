@@ -1,5 +1,5 @@
 -- What is left of the open sets of one side, which bounds the offers of a chain.
-use Rattle.std.proofs.Common.{◌≡◌, ℕ, ◌+◌, ◌-◌, ◌*◌, ◌<◌, ◌≤◌, Bool, true, false, cond, not, ◌&&◌, ◌||◌, eqb, ltb, leb, ◌⊎◌, sym, refl, ap, ◌∙◌, inl, inr, ⊎_elim, arith}
+use Rattle.std.proofs.Common.{◌≡◌, ℕ, ◌+◌, ◌-◌, ◌*◌, ◌<◌, ◌≤◌, Bool, true, false, cond, not, ltb, sym, refl, ap, ◌∙◌, arith}
 use Rattle.std.proofs.lemmas.Bool.{both_ways}
 use Rattle.std.proofs.lemmas.Bool.Decides.{nat_tests}
 use Rattle.ranking.specs.Market.{Market}
@@ -8,7 +8,7 @@ use Rattle.ranking.specs.Stability.{holds}
 use Rattle.board.specs.State.{State}
 use Rattle.board.specs.Offer.{with_member, offered}
 use Rattle.board.proofs.Offers.{open_after, open_taken}
-use Rattle.board.proofs.Sums.{sum, bit, bit_most, sum_most, sum_less, sum_falls, sum_term}
+use Rattle.board.proofs.Sums.{sum, bit, bit_most, sum_most, sum_less, sum_falls}
 
 -- one of the two parties is on the side that offers, streams where the test is true; whom it may make an offer to is the other
 abbrev pub offerer : (s : ℕ) → Bool → ℕ → ℕ → ℕ

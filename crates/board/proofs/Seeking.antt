@@ -1,16 +1,16 @@
 -- The search for the best ranked member of an open set, and what it says of who is content.
-use Rattle.std.proofs.Common.{◌≡◌, ℕ, ◌+◌, ◌<◌, ◌≤◌, Bool, true, false, cond, not, ◌&&◌, eqb, ltb, leb, ◌⊎◌, is_some, Some, None, Option, sym, refl, ap, ◌∙◌, inl, inr, ⊎_elim, arith}
-use Rattle.std.proofs.lemmas.Bool.{and_parts, and_from, and_right, and_left, both_ways, cases_lt, cases_Bool, lt-ltb, le-ltb, ltb-true, ltb-false, eq-eqb, eqb-true}
+use Rattle.std.proofs.Common.{◌≡◌, ℕ, ◌+◌, ◌<◌, ◌≤◌, Bool, true, false, cond, ◌&&◌, ltb, leb, is_some, Some, None, Option, sym, refl, ap, ◌∙◌, ⊎_elim, arith}
+use Rattle.std.proofs.lemmas.Bool.{and_from, and_right, and_left, both_ways, cases_lt, cases_Bool, lt-ltb, le-ltb, ltb-true, ltb-false, eq-eqb, eqb-true}
 use Rattle.std.proofs.lemmas.Bool.Decides.{nat_tests}
 use Rattle.ranking.specs.Market.{Market, prefers, LawfulMarket}
 use Rattle.board.specs.Sides.{across}
-use Rattle.ranking.specs.Stability.{is_party, holds, rank_of, held_rank, wants}
+use Rattle.ranking.specs.Stability.{is_party, rank_of, held_rank, wants}
 use Rattle.ranking.proofs.Blocking.{prefers_same}
-use Rattle.board.specs.State.{State, seeks, Content, Best}
+use Rattle.board.specs.State.{State, Content, Best}
 use Rattle.board.specs.Kept.{Kept}
 use Rattle.board.specs.RankTables.{rank_from}
-use Rattle.board.specs.Calls.{Sought, BestOpen}
-use Rattle.board.proofs.Keeping.{HeldFacts, held_facts, not_so, some_is, ranked_across}
+use Rattle.board.specs.Calls.{BestOpen}
+use Rattle.board.proofs.Keeping.{held_facts, not_so, ranked_across}
 
 -- Ranks in order.
 better_ranked : (a b : Option ℕ) → prefers a b ≡ true → is_some a ≡ true

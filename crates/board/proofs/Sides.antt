@@ -1,5 +1,5 @@
 -- Who stand on the two sides of a market.
-use Rattle.std.proofs.Common.{◌≡◌, ℕ, ◌+◌, ◌<◌, ◌≤◌, true, ◌⊎◌, Some, arith}
+use Rattle.std.proofs.Common.{◌≡◌, ℕ, true, ◌⊎◌, Some, arith}
 use Rattle.std.proofs.lemmas.Bool.Decides.{nat_tests}
 use Rattle.ranking.specs.Market.{Market, StreamAndLane, LawfulMarket}
 use Rattle.board.specs.Sides.{across}

@@ -1,14 +1,14 @@
 -- A standstill is stable.
-use Rattle.std.proofs.Common.{◌≡◌, ℕ, ◌<◌, Bool, true, false, not, ◌&&◌, ◌||◌, ◌⊎◌, is_some, Some, None, Option, sym, refl, ap, ◌∙◌, inl, inr, ⊎_elim, arith}
+use Rattle.std.proofs.Common.{◌≡◌, ℕ, true, false, ◌||◌, is_some, Some, None, Option, sym, refl, ap, ◌∙◌, ⊎_elim}
 use Rattle.std.proofs.lemmas.Bool.{and_parts, and_from, or_cases, both_ways, eq-eqb}
 use Rattle.record.proofs.Lists.{or_false}
 use Rattle.ranking.specs.Market.{Market, LawfulMarket}
-use Rattle.board.specs.Sides.{across, party_count}
+use Rattle.board.specs.Sides.{across}
 use Rattle.ranking.specs.Stability.{is_party, holds, wants, blocks, ranks_both, held_ranked, Stable}
 use Rattle.ranking.proofs.Blocking.{blocks_wants}
 use Rattle.board.specs.State.{State, new_state, seeks, Standstill}
 use Rattle.board.specs.Kept.{Kept}
-use Rattle.board.proofs.Keeping.{HeldFacts, held_facts, OpenFacts, open_facts, kept_from, across_below, across_swap, ranked_across, wanted_ranked, not_so}
+use Rattle.board.proofs.Keeping.{held_facts, open_facts, kept_from, across_below, across_swap, ranked_across, wanted_ranked, not_so}
 
 -- a new board keeps it
 pub new_kept : (m : Market) → Kept m (new_state m)

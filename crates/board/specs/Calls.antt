@@ -1,5 +1,5 @@
 -- What the board's calls answer and promise.
-use Rattle.std.specs.Prelude.{◌≡◌, ℕ, ◌-◌, Bool, true, false, not, List, map, is_some, Some, None, Option, nat_lt}
+use Rattle.std.specs.Prelude.{◌≡◌, ℕ, ◌-◌, true, false, not, List, map, is_some, Some, None, Option, nat_lt}
 use Rattle.std.specs.List.{range_with_len}
 use Rattle.record.specs.Refusals.{refuse_if}
 use Rattle.ranking.specs.Market.{Market, prefers}

@@ -1,5 +1,5 @@
 -- The ranks that a board took from its ranking, as a table.
-use Rattle.std.specs.Prelude.{◌≡◌, ℕ, ◌+◌, ◌*◌, Bool, true, false, cond, not, ◌||◌, List, is_some, Some, None, Option, nat_lt, slice_index_or}
+use Rattle.std.specs.Prelude.{◌≡◌, ℕ, ◌+◌, ◌*◌, true, cond, List, is_some, Some, None, Option, nat_lt, slice_index_or}
 use Rattle.ranking.specs.Market.{Market}
 use Rattle.board.specs.Sides.{across}
 

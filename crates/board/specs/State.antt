@@ -1,5 +1,5 @@
 -- What a board holds, and who is content.
-use Rattle.std.specs.Prelude.{◌≡◌, ℕ, ◌<◌, Bool, true, false, ◌&&◌, Some, None, Option}
+use Rattle.std.specs.Prelude.{◌≡◌, ℕ, ◌<◌, Bool, true, false, ◌&&◌, None, Option}
 use Rattle.ranking.specs.Market.{Market, prefers}
 use Rattle.board.specs.Sides.{across, party_count}
 use Rattle.ranking.specs.Stability.{wants}

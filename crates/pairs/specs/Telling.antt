@@ -1,5 +1,5 @@
 -- What the program prints of its input, and how it ends.
-use Rattle.std.specs.Prelude.{◌≡◌, ℕ, Bool, true, false, List, take, Some, None, Option}
+use Rattle.std.specs.Prelude.{◌≡◌, ℕ, Bool, true, false, List, Some, None, Option}
 use Rattle.record.specs.Refusals.{or_else}
 use Rattle.record.specs.Bytes.{bytes_fault, words_of}
 use Rattle.record.specs.Format.{Content, Records}

@@ -1,12 +1,11 @@
 -- Figures read one after the other.
-use Rattle.std.proofs.Common.{◌≡◌, ℕ, ◌+◌, ◌-◌, ◌*◌, ◌<◌, ◌≤◌, Bool, true, false, cond, not, ◌&&◌, ltb, leb, ◌⊎◌, List, map, length, get_or, set, replicate, Some, None, Option, sym, refl, ap, ◌∙◌, subst, inl, inr, ⊎_elim, arith}
+use Rattle.std.proofs.Common.{◌≡◌, ℕ, ◌+◌, ◌<◌, ◌≤◌, Bool, false, cond, not, ◌&&◌, leb, ◌⊎◌, List, map, length, get_or, set, replicate, Some, None, sym, ap, ◌∙◌, subst, ⊎_elim, arith}
 use Rattle.std.proofs.lemmas.List.{get_or-set_same, get_or-set_other, get_or-replicate, get_or_past, length-replicate, get_or-map}
 use Rattle.std.proofs.lemmas.Bool.{cases_eq, cases_lt, and_from, and_left, and_right, le-leb, lt-leb}
-use Rattle.std.proofs.lemmas.Bool.Decides.{nat_tests}
 use Rattle.record.specs.Refusals.{refuse_if, or_else}
 use Rattle.record.specs.Lists.{earliest}
 use Rattle.record.proofs.Lists.{earliest_more, earliest_found}
-use Rattle.ranking.specs.Figures.{Figured, unfigured, small, Small, party_fault, side_fault, some_figures, lists_fault}
+use Rattle.ranking.specs.Figures.{Figured, unfigured, Small, party_fault, side_fault, some_figures, lists_fault}
 
 -- a table with nothing in it yet
 pub small_none : (n : ℕ) → Small (replicate n 0)

@@ -1,16 +1,15 @@
 -- Tables of places.
-use Rattle.std.specs.Prelude.{◌≡◌, ℕ, ◌+◌, ◌-◌, ◌*◌, ◌<◌, ◌≤◌, Bool, true, false, cond, ◌≢◌, ◌⊎◌, List, [], ◌∷◌, ◌++◌, length, get_or, take, replicate, is_some, Some, None, Option, nat_lt, slice_index, slice_index_or, slice_set, refl}
-use Rattle.std.proofs.Common.{sym, ◌∙◌, ap, subst, inl, inr, ⊎_elim, arith}
+use Rattle.std.specs.Prelude.{◌≡◌, ℕ, ◌+◌, ◌*◌, ◌<◌, ◌≤◌, Bool, false, cond, ◌≢◌, List, [], ◌∷◌, ◌++◌, length, get_or, take, replicate, is_some, Some, None, Option, nat_lt, slice_index, slice_index_or, slice_set, refl}
+use Rattle.std.proofs.Common.{sym, ◌∙◌, ap, subst, ⊎_elim, arith}
 use Rattle.std.proofs.lemmas.List.{get_or-replicate, get_or_past, length-replicate, get_or-set_same, get_or-set_other}
-use Rattle.std.proofs.lemmas.Bool.{cases_lt, cases_eq, le-ltb, lt-ltb, eq-eqb, ne_eqb, cond-true, cond-false}
+use Rattle.std.proofs.lemmas.Bool.{cases_lt, cases_eq, le-ltb, lt-ltb, ne_eqb, cond-true, cond-false}
 use Rattle.std.specs.List.{AllByRecursion}
 use Rattle.record.specs.Lists.{among, place_in, next}
-use Rattle.record.specs.Faults.{kind, high, middle, low, ranked_by}
+use Rattle.record.specs.Faults.{high, middle, low, ranked_by}
 use Rattle.record.specs.Format.{Content, Lawful, parties, facing, choice_words}
 use Rattle.record.proofs.Contents.{few_parties}
 use Rattle.record.proofs.Lawfuls.{choices_ranked, choice_kind, choice_owner, choice_member, choice_place, choice_new, choice_few}
 use Rattle.record.proofs.Scanning.{ranked_by_push, ranked_by_other}
-use Rattle.std.proofs.lemmas.Bool.Decides.{nat_tests}
 use Rattle.ranking.specs.Places.{entry, place_at, DistinctPlaces, Enterable, Entered}
 use Rattle.ranking.specs.Listings.{table_meaning, content_meaning}
 use Rattle.record.proofs.Lists.{among_place, place_at_lem, place_push_other, place_push_new}

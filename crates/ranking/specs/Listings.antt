@@ -1,5 +1,5 @@
 -- A listing: a ranking whose ranks are the places of a record.
-use Rattle.std.specs.Prelude.{◌≡◌, ℕ, ◌+◌, ◌<◌, Bool, true, cond, List, Some, None, Option, nat_lt}
+use Rattle.std.specs.Prelude.{ℕ, ◌+◌, Bool, cond, List, None, Option, nat_lt}
 use Rattle.record.specs.Lists.{place_in}
 use Rattle.record.specs.Refusals.{refuse_if, or_else}
 use Rattle.record.specs.Format.{Content}

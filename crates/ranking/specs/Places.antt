@@ -1,6 +1,6 @@
 -- A table of places: for each of 32 parties a row of 16 numbers, one for each party that it may rank, the place that
 -- it gives that party, or 255 for none.
-use Rattle.std.specs.Prelude.{◌≡◌, ℕ, ◌+◌, ◌*◌, ◌<◌, Bool, false, cond, List, length, Some, None, Option, nat_lt, slice_index_or}
+use Rattle.std.specs.Prelude.{◌≡◌, ℕ, ◌+◌, ◌*◌, ◌<◌, false, cond, List, length, Some, None, Option, nat_lt, slice_index_or}
 use Rattle.record.specs.Lists.{among, place_in}
 use Rattle.record.specs.Faults.{kind, high, middle, low, ranked_by}
 

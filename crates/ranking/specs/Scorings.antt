@@ -1,5 +1,5 @@
 -- A scoring: a ranking worked out from figures.
-use Rattle.std.specs.Prelude.{◌≡◌, ℕ, ◌<◌, Bool, cond, List, length, slice_index, slice_index_or}
+use Rattle.std.specs.Prelude.{◌≡◌, ℕ, ◌<◌, cond, List, length, slice_index, slice_index_or}
 use Rattle.ranking.specs.Market.{Meaning}
 use Rattle.ranking.specs.Listings.{unlisted}
 use Rattle.ranking.specs.Figures.{Figured, unfigured, scored_meaning}

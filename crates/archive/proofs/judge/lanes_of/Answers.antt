@@ -1,7 +1,7 @@
-use Rattle.std.proofs.Common.{◌≡◌, ℕ, ◌+◌, ◌<◌, map, length, get_or, take, set, sym, ap, ◌∙◌, subst, arith}
+use Rattle.std.proofs.Common.{◌≡◌, ℕ, ◌+◌, ◌<◌, map, get_or, take, set, sym, ap, ◌∙◌, subst, arith}
 use Rattle.std.proofs.ByRecursion.{All-get_or}
 use Rattle.std.proofs.lemmas.List.{length-set, length-map, get_or-map, take_all}
-use Rattle.record.specs.Faults.{middle, low, pair_of}
+use Rattle.record.specs.Faults.{middle, pair_of}
 use Rattle.archive.specs.Pairs.{lane_of}
 use Rattle.archive.proofs.Paired.{one_paired}
 use Rattle.archive.proofs.judge.lanes_of.Goals as goal

@@ -1,4 +1,4 @@
-use Rattle.std.proofs.Common.{◌≡◌, ℕ, ◌+◌, length, take, refl, arith}
+use Rattle.std.proofs.Common.{◌+◌, length, take, refl, arith}
 use Rattle.std.proofs.lemmas.List.{take_all}
 use Rattle.archive.proofs.Writing.{wrote_more, wrote_as}
 use Rattle.archive.proofs.text.put.Goals as goal

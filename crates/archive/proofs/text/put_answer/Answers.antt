@@ -1,5 +1,4 @@
-use Rattle.std.proofs.Common.{sym, ap, arith}
-use Rattle.archive.specs.Texts.{finding_text}
+use Rattle.std.proofs.Common.{arith}
 use Rattle.archive.proofs.Writing.{wrote_both}
 use Rattle.archive.proofs.text.put_answer.Goals as goal
 

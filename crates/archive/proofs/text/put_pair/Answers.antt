@@ -1,4 +1,4 @@
-use Rattle.std.proofs.Common.{sym, refl, ap, ◌∙◌, append_assoc, arith}
+use Rattle.std.proofs.Common.{arith}
 use Rattle.archive.proofs.Writing.{wrote_both}
 use Rattle.archive.proofs.text.put_pair.Goals as goal
 

@@ -1,4 +1,4 @@
-use Rattle.std.proofs.Common.{◌≡◌, sym, ap, ◌∙◌, subst}
+use Rattle.std.proofs.Common.{sym, ◌∙◌, subst}
 use Rattle.ranking.specs.Market.{Market}
 use Rattle.board.specs.State.{State}
 use Rattle.board.specs.Calls.{Sought}

@@ -1,6 +1,4 @@
-use Rattle.std.proofs.Common.{◌≡◌, ℕ, ◌+◌, ◌<◌, Option, sym, refl, ◌∙◌}
-use Rattle.ranking.specs.Market.{Market}
-use Rattle.board.specs.State.{State}
+use Rattle.std.proofs.Common.{ℕ, ◌+◌, ◌<◌, Option, sym, ◌∙◌}
 use Rattle.board.specs.Meaning.{state_of, market_in}
 use Rattle.board.specs.declared.rank_table.RankTable.{RankTable}
 use Rattle.board.specs.declared.rows.Rows.{Rows}

@@ -1,4 +1,4 @@
-use Rattle.std.proofs.Common.{◌≡◌, sym, ◌∙◌}
+use Rattle.std.proofs.Common.{sym}
 use Rattle.board.specs.Meaning.{state_of, market_in}
 use Rattle.board.proofs.RankTables.{lawful_table}
 use Rattle.board.proofs.Partners.{partner_row}

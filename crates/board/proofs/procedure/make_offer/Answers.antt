@@ -1,5 +1,5 @@
-use Rattle.std.proofs.Common.{◌≡◌, sym, refl, ◌∙◌, subst}
-use Rattle.ranking.specs.Market.{Market, LawfulMarket}
+use Rattle.std.proofs.Common.{sym, subst}
+use Rattle.ranking.specs.Market.{Market}
 use Rattle.board.specs.State.{State}
 use Rattle.board.specs.Kept.{Kept}
 use Rattle.board.specs.Meaning.{state_of, market_in}

@@ -1,4 +1,4 @@
-use Rattle.std.proofs.Common.{◌≡◌, sym, subst, arith}
+use Rattle.std.proofs.Common.{sym, subst, arith}
 use Rattle.board.specs.Turn.{Owed}
 use Rattle.board.specs.Turn.Owed.{nobody, chain}
 use Rattle.board.specs.Meaning.{state_of, market_in}

@@ -1,4 +1,4 @@
-use Rattle.std.proofs.Common.{◌≡◌, ℕ, ◌+◌, ◌*◌, ◌<◌, ◌≤◌, IfSome, sym, refl, ap, ◌∙◌, subst, arith}
+use Rattle.std.proofs.Common.{◌≡◌, ℕ, ◌*◌, ◌<◌, ◌≤◌, IfSome, sym, refl, subst, arith}
 use Rattle.std.proofs.lemmas.Nat.{mul-le}
 use Rattle.ranking.specs.Market.{Market}
 use Rattle.board.specs.Sides.{party_count}

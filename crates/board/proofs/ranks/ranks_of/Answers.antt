@@ -1,7 +1,6 @@
-use Rattle.std.proofs.Common.{◌≡◌, ℕ, ◌+◌, cond, set, None, sym, refl, ap, ◌∙◌, arith, length-set}
+use Rattle.std.proofs.Common.{◌+◌, cond, set, None, sym, refl, ap, ◌∙◌, arith, length-set}
 use Rattle.ranking.specs.Market.{Meaning, rank_across, market_of}
 use Rattle.ranking.proofs.Markets.{rank_stream, rank_lane, lawful_market}
-use Rattle.board.specs.RankTables.{rank_in}
 use Rattle.board.proofs.RankTables.{settled, no_rank, none_below, pair_put, none_put, all_lanes_put, all_put, no_rank_beside}
 use Rattle.board.proofs.ranks.ranks_of.Goals as goal
 

@@ -1,4 +1,4 @@
-use Rattle.std.proofs.Common.{◌≡◌, true, false, sym, refl, ◌∙◌}
+use Rattle.std.proofs.Common.{false, sym, refl, ◌∙◌}
 use Rattle.std.proofs.lemmas.Bool.{both_ways}
 use Rattle.board.specs.Meaning.{state_of, market_in}
 use Rattle.board.proofs.Checking.{held_part, open_part, sides_part, all_parts}

@@ -1,4 +1,4 @@
-use Rattle.std.proofs.Common.{◌≡◌, ℕ, Bool, true, false, not, ◌&&◌, ◌||◌, sym, refl, ◌∙◌, arith}
+use Rattle.std.proofs.Common.{◌≡◌, Bool, true, not, ◌||◌, sym, refl, ◌∙◌, arith}
 use Rattle.board.proofs.soundness.sets_are_right.Goals as goal
 
 -- two sets that lie within the other side

@@ -1,6 +1,6 @@
-use Rattle.std.proofs.Common.{◌≡◌, ℕ, ◌-◌, List, length, take, IfOk, sym, ap, ◌∙◌, subst, arith}
+use Rattle.std.proofs.Common.{◌≡◌, ◌-◌, take, IfOk, ap, ◌∙◌, subst, arith}
 use Rattle.record.specs.Refusals.{or_else}
-use Rattle.record.specs.Bytes.{words_of, bytes_fault}
+use Rattle.record.specs.Bytes.{words_of}
 use Rattle.record.specs.Faults.{record_fault}
 use Rattle.record.specs.Format.{Content, Records}
 use Rattle.archive.specs.Judging.{JudgedOf}

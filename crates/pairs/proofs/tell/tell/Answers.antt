@@ -1,4 +1,4 @@
-use Rattle.std.proofs.Common.{◌≡◌, take, ap, ◌∙◌, subst}
+use Rattle.std.proofs.Common.{take, ap, ◌∙◌, subst}
 use Rattle.pairs.specs.Telling.{Told, is_stable}
 use Rattle.pairs.proofs.tell.tell.Goals as goal
 

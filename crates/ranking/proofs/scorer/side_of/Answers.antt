@@ -1,6 +1,6 @@
-use Rattle.std.proofs.Common.{◌≡◌, ℕ, ◌<◌, ◌≤◌, ◌⊎◌, List, map, length, get_or, sym, refl, ap, ◌∙◌, subst, inl, inr, ⊎_elim, arith}
+use Rattle.std.proofs.Common.{◌≡◌, ◌<◌, ◌≤◌, ◌⊎◌, map, length, get_or, sym, ap, ◌∙◌, subst, inl, inr, arith}
 use Rattle.std.proofs.lemmas.List.{length-set, length-map}
-use Rattle.ranking.specs.Figures.{Figured, unfigured, party_fault}
+use Rattle.ranking.specs.Figures.{unfigured, party_fault}
 use Rattle.ranking.proofs.Scores.{small_set, holds_more, party_read, party_refused, record_read}
 use Rattle.ranking.proofs.scorer.side_of.Goals as goal
 use Rattle.ranking.proofs.scorer.side_of.Goals.{then-o-gt-MOST_FIGURE-via-then-o-gt-MOST_FIGURE, then-o-gt-MOST_FIGURE-via-else-o-gt-MOST_FIGURE+then-w-gt-MOST_FIGURE, then-o-gt-MOST_FIGURE-via-else-o-gt-MOST_FIGURE+else-w-gt-MOST_FIGURE+then-r-gt-MOST_FIGURE}

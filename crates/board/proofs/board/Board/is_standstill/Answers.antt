@@ -1,4 +1,4 @@
-use Rattle.std.proofs.Common.{◌≡◌, sym, subst}
+use Rattle.std.proofs.Common.{sym, subst}
 use Rattle.ranking.specs.Stability.{Stable}
 use Rattle.board.specs.Calls.{market_at, state_at}
 use Rattle.board.proofs.RankTables.{lawful_table}

@@ -1,4 +1,4 @@
-use Rattle.std.proofs.Common.{◌≡◌, ℕ, sym, ◌∙◌, subst, arith}
+use Rattle.std.proofs.Common.{◌≡◌, sym, subst}
 use Rattle.ranking.specs.Market.{Market, Meaning, market_of, LawfulMarket}
 use Rattle.ranking.proofs.Markets.{lawful_market}
 use Rattle.board.specs.RankTables.{table_market}

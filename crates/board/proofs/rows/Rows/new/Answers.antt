@@ -1,4 +1,4 @@
-use Rattle.std.proofs.Common.{◌≡◌, ℕ, ◌+◌, ◌<◌, length, sym, refl, ap, ◌∙◌, arith, length-set}
+use Rattle.std.proofs.Common.{◌≡◌, ◌+◌, refl, ◌∙◌, arith, length-set}
 use Rattle.board.specs.Sides.{across}
 use Rattle.board.proofs.NewRows.{empty_rows, nobody_below, one_row_more, new_rows}
 use Rattle.board.proofs.rows.Rows.new.Goals as goal

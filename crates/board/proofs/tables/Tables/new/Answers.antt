@@ -1,7 +1,7 @@
-use Rattle.std.proofs.Common.{◌≡◌, sym, refl, ap, ◌∙◌, subst}
+use Rattle.std.proofs.Common.{sym, refl, ap, ◌∙◌, subst}
 use Rattle.board.specs.State.{new_state}
 use Rattle.board.specs.Kept.{Kept}
-use Rattle.board.specs.Meaning.{state_of, market_in}
+use Rattle.board.specs.Meaning.{market_in}
 use Rattle.board.proofs.Standing.{new_kept}
 use Rattle.board.proofs.tables.Tables.new.Goals as goal
 

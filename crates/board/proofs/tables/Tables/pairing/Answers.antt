@@ -1,4 +1,4 @@
-use Rattle.std.proofs.Common.{◌≡◌, ℕ, ◌<◌, ◌≤◌, length, get_or, set, replicate, IfSome, sym, refl, ap, ◌∙◌, subst, arith, length-set, below_more}
+use Rattle.std.proofs.Common.{◌≡◌, ◌≤◌, get_or, set, IfSome, sym, refl, ap, ◌∙◌, subst, arith, length-set, below_more}
 use Rattle.std.proofs.lemmas.List.{get_or-replicate, get_or-set_same, get_or-set_other}
 use Rattle.board.specs.Calls.{market_at, state_at, lane_byte}
 use Rattle.board.proofs.RankTables.{lawful_table}

@@ -1,4 +1,4 @@
-use Rattle.std.proofs.Common.{◌≡◌, ℕ, ◌≤◌, Bool, true, false, None, sym, refl, ap, ◌∙◌, subst, arith}
+use Rattle.std.proofs.Common.{◌≤◌, sym, refl, ap, ◌∙◌, subst}
 use Rattle.record.specs.Refusals.{refuse_if, or_else}
 use Rattle.ranking.proofs.Tables.{enterable, entered_distinct, table_content}
 use Rattle.ranking.proofs.table.Listing.fill.Goals as goal

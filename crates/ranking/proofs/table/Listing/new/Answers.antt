@@ -1,4 +1,4 @@
-use Rattle.std.proofs.Common.{◌≡◌, ℕ, ◌+◌, Bool, true, false, cond, ltb, replicate, None, Option, refl, arith}
+use Rattle.std.proofs.Common.{◌≡◌, ℕ, ◌+◌, Bool, true, false, cond, ltb, replicate, None, refl, arith}
 use Rattle.ranking.specs.Places.{place_at}
 use Rattle.ranking.proofs.Tables.{no_place, none_distinct}
 use Rattle.ranking.proofs.table.Listing.new.Goals as goal
