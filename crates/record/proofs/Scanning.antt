@@ -8,13 +8,13 @@ use Rattle.record.specs.Refusals.{refuse_if, or_else}
 use Rattle.record.specs.Lists.{every, among}
 use Rattle.record.specs.Faults.{kind, high, middle, low, of_kind, ranked_by, turns_in, pairs_in, pair_of, choice_within, choice_in_order, turn_in_order, pair_within, pair_in_order}
 use Rattle.record.specs.Format.{facing}
-use Rattle.record.specs.Sets.{has}
+use Rattle.sets.specs.Sets.{has}
 use Rattle.record.specs.Scans.{KindsBelow, OwnerSeen, ChoicesSeen, TurnsSeen, PairsSeen}
-use Rattle.record.specs.declared.members.Members.{Members}
+use Rattle.sets.specs.declared.Members.{Members}
 use Rattle.record.specs.declared.scan.ChoiceScan.{ChoiceScan}
 use Rattle.record.specs.declared.scan.PairScan.{PairScan}
 use Rattle.record.specs.declared.scan.TurnScan.{TurnScan}
-use Rattle.record.proofs.Bits.{or_swap}
+use Rattle.std.proofs.Math.Bool.{or_comm}
 use Rattle.record.proofs.Lists.{kept_none, every_push, among_push}
 
 -- keeping one more member, or passing it over
@@ -94,7 +94,7 @@ one_more_choice scan at ws w m e l o seen latest added =
         members = λ q.
             added q
             ∙ ap (λ b. eqb q (low w) || b) (latest.members q)
-            ∙ or_swap (eqb q (low w)) (among q (ranked_by ws at.owner))
+            ∙ or_comm (eqb q (low w)) (among q (ranked_by ws at.owner))
             ∙ sym (ap (among q) r ∙ among_push q (ranked_by ws at.owner) (low w));
       };
     }
@@ -151,7 +151,7 @@ one_more_pair scan ws w m e l seen added =
       lanes = λ q.
           added q
           ∙ ap (λ b. eqb q (low w) || b) (seen.lanes q)
-          ∙ or_swap (eqb q (low w)) (among q (map (λ p. p.1) (pairs_in ws)))
+          ∙ or_comm (eqb q (low w)) (among q (map (λ p. p.1) (pairs_in ws)))
           ∙ sym (ap (λ l. among q (map (λ p. p.1) l)) r ∙ ap (among q) (map_push (λ p. p.1) (pairs_in ws) (pair_of w)) ∙ among_push q (map (λ p. p.1) (pairs_in ws)) (low w));
     }
   where

@@ -1,7 +1,6 @@
 pub mod Refusals
 pub mod Lists
 pub mod Bytes
-pub mod Sets
 pub mod Format
 pub mod Faults
 pub mod Scans

@@ -1,6 +1,6 @@
 -- What the reader keeps of the words so far, and what that says of them.
 use Rattle.std.specs.Prelude.{◌≡◌, ℕ, true, leb, List, map, length, nat_le, nat_lt}
-use Rattle.record.specs.Sets.{has}
+use Rattle.sets.specs.Sets.{has}
 use Rattle.record.specs.Lists.{every, among}
 use Rattle.record.specs.Faults.{kind, of_kind, high, ranked_by, turns_in, pairs_in}
 use Rattle.record.specs.declared.scan.ChoiceScan.{ChoiceScan}

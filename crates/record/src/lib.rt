@@ -2,7 +2,6 @@
 #![tactic(auto)]
 
 pub mod bytes;
-mod members;
 mod order;
 mod part;
 pub mod read;

@@ -3,7 +3,7 @@ ghost use Rattle.record.specs.Refusals.{refused_by, refuse_if, or_else};
 ghost use Rattle.record.specs.Faults.{choice_within, choice_in_order, turn_within, turn_in_order, pair_within, pair_in_order, kind, high};
 ghost use Rattle.record.specs.Scans.{KindsBelow, OwnerSeen, ChoicesSeen, TurnsSeen, PairsSeen};
 
-use crate::members::Members;
+use sets::Members;
 use crate::refusal::Refusal;
 use crate::scan::{ChoiceScan, PairScan, Sizes, TurnScan};
 use crate::word::{high_byte, low_byte, middle_byte};

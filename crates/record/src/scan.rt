@@ -1,6 +1,6 @@
 ghost use Rattle.std.specs.Prelude.{◌≤◌};
 
-use crate::members::Members;
+use sets::Members;
 
 /// How many streams and lanes there are, 1 to 16 of each.
 #[derive(Clone, Copy, PartialEq, Eq)]

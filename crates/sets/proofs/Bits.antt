@@ -4,6 +4,7 @@ use native.Mathlib.Nat.{mul-mod_left, div-eq_of_lt, zero-div, div_self}
 use lib.Bits.{bit_and, bit_or, bit_xor, or_shr, or_mod, and_shr, and_mod, xor_shr, xor_mod}
 use Rattle.std.proofs.lemmas.Nat.{pow_pos, pow_below, pow-add, shl-shr, shr-shr, div_below, one_shl}
 use Rattle.std.proofs.lemmas.Bool.{cases_order, eq-eqb, ne_eqb, eqb-false}
+use Rattle.std.proofs.Math.Bool.{or_comm}
 use Rattle.sets.specs.Sets.{has}
 
 or_bit : (p q : ℕ) → p < 2 → q < 2 → eqb (bit_or p q) 1 ≡ (eqb p 1 || eqb q 1)
@@ -61,14 +62,8 @@ has_one k j = ⊎_elim same (⊎_elim below above) (cases_order j k)
     above : k < j → has (2 ^ k) j ≡ eqb j k
     above l = ap (λ x. eqb (x % 2) 1) (div-eq_of_lt (pow_below k j l)) ∙ sym (ne_eqb j k (omega arith))
 
-pub or_swap : (a b : Bool) → (a || b) ≡ (b || a)
-or_swap true true = refl
-or_swap true false = refl
-or_swap false true = refl
-or_swap false false = refl
-
 pub has_insert : (m k j : ℕ) → k < 32 → has (bit_or m ((1 * 2 ^ k) % 4294967296)) j ≡ (eqb j k || has m j)
-has_insert m k j h = ap (λ x. has (bit_or m x) j) (one_shl k 32 h) ∙ has_or m (2 ^ k) j ∙ ap (λ x. has m j || x) (has_one k j) ∙ or_swap (has m j) (eqb j k)
+has_insert m k j h = ap (λ x. has (bit_or m x) j) (one_shl k 32 h) ∙ has_or m (2 ^ k) j ∙ ap (λ x. has m j || x) (has_one k j) ∙ or_comm (has m j) (eqb j k)
 
 pub has_remove : (m k j : ℕ) → k < 32 → has (bit_xor m (bit_and m ((1 * 2 ^ k) % 4294967296))) j ≡ (not (eqb j k) && has m j)
 has_remove m k j h = ap (λ x. has (bit_xor m (bit_and m x)) j) (one_shl k 32 h) ∙ has_less m (2 ^ k) j ∙ ap (λ x. not x && has m j) (has_one k j)

@@ -22,10 +22,8 @@ impl Members {
         ensures has_the_range { (j : ℕ) → has result.0 j ≡ (nat_le from j && (nat_lt j end && nat_lt j 32)) }
     {
         let mut members = Members::none();
-        for k in 0..end {
-            if from <= k {
-                members.insert(k);
-            }
+        for k in from..end {
+            members.insert(k);
         }
         members
     }
@@ -61,5 +59,23 @@ impl Members {
         ensures says_whether { Decides result ((j : ℕ) → has self.0 j ≡ true → has other.0 j ≡ true) }
     {
         (self.0 ^ (self.0 & other.0)) == 0
+    }
+}
+
+impl From<u32> for Members {
+    ghost from_gives = { λ mask members. members.0 ≡ mask };
+
+    /// The set whose mask this is: bit k stands for member k.
+    fn from(mask: u32) -> Members {
+        Members(mask)
+    }
+}
+
+impl From<Members> for u32 {
+    ghost from_gives = { λ members mask. mask ≡ members.0 };
+
+    /// The mask of a set.
+    fn from(members: Members) -> u32 {
+        members.0
     }
 }

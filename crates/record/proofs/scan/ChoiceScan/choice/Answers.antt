@@ -1,7 +1,7 @@
 use Rattle.std.proofs.Common.{◌≡◌, ◌<◌, ◌≤◌, true, false, not, ◌&&◌, ◌||◌, eqb, sym, refl, ap, ◌∙◌, arith}
 use Rattle.std.proofs.lemmas.Bool.{lt-ltb, eq-eqb}
 use Rattle.record.specs.Refusals.{refuse_if, or_else}
-use Rattle.record.specs.Sets.{has}
+use Rattle.sets.specs.Sets.{has}
 use Rattle.record.specs.Faults.{high, low, middle, choice_within, choice_in_order}
 use Rattle.record.proofs.Scanning.{choice_below, choice_order, one_more_choice, choice_small}
 use Rattle.record.proofs.scan.ChoiceScan.choice.Goals as goal
@@ -28,7 +28,7 @@ returns c =
     let o : at.owner ≡ high word = c.at_owner-scan.ensures.is_the_owner ∙ c.high_byte-owner.ensures.is_the_high_byte in
     let w : choice_within sizes.streams sizes.lanes word ≡ true = sym c.if-not-choice_within.ensures.is_the_rule in
     let q : c.low_byte-ranked.result ≡ low word = c.low_byte-ranked.ensures.is_the_low_byte in
-    let few : c.low_byte-ranked.result < 16 = omega (arith, choice_small sizes.streams sizes.lanes word (omega arith) (omega arith) w) in
+    let few : c.low_byte-ranked.result < 32 = omega (arith, choice_small sizes.streams sizes.lanes word (omega arith) (omega arith) w) in
     let place : eqb (middle word) at.next ≡ true = eq-eqb (middle word) at.next (omega arith) in
     let new : has at.named.0 (low word) ≡ false = ap (has at.named.0) (sym q) ∙ sym c.if-contains.ensures.is_membership in
     let kept = c.at_owner-scan.ensures.keeps_what_was_seen in
@@ -41,6 +41,6 @@ returns c =
       has_seen_one_more = λ before seen e.
           one_more_choice scan at before word c.insert.new.self c.requires.is_a_choice l o seen (kept before seen)
           (λ j. c.insert.ensures.adds_one j
-          ∙ ap (λ b. b && eqb j c.low_byte-ranked.result || has at.named.0 j) (lt-ltb c.low_byte-ranked.result 16 few)
+          ∙ ap (λ b. b && eqb j c.low_byte-ranked.result || has at.named.0 j) (lt-ltb c.low_byte-ranked.result 32 few)
           ∙ ap (λ x. eqb j x || has at.named.0 j) q);
     }

@@ -1,6 +1,6 @@
 use Rattle.std.proofs.Common.{◌≡◌, ℕ, ◌+◌, ◌<◌, ◌≤◌, true, false, not, ◌&&◌, ◌||◌, eqb, leb, sym, refl, ap, ◌∙◌, arith}
 use Rattle.std.proofs.lemmas.Bool.{lt-ltb, le-leb, lt-leb, and_left, and_right, and_from}
-use Rattle.record.specs.Sets.{has}
+use Rattle.sets.specs.Sets.{has}
 use Rattle.record.specs.Faults.{low, middle, pair_within}
 use Rattle.record.specs.declared.scan.PairScan.{PairScan}
 use Rattle.record.proofs.Scanning.{pair_order, one_more_pair, pair_small, order_decides}
@@ -40,7 +40,7 @@ returns c =
     let lane = c.low_byte-lane.result in
     let w : pair_within sizes.streams sizes.lanes word ≡ true = sym c.if-not-pair_within.ensures.is_the_rule in
     let q : lane ≡ low word = c.low_byte-lane.ensures.is_the_low_byte in
-    let few : lane < 16 = omega (arith, pair_small sizes.streams sizes.lanes word (omega arith) w) in
+    let few : lane < 32 = omega (arith, pair_small sizes.streams sizes.lanes word (omega arith) w) in
     let above : scan.floor ≤ middle word = omega arith in
     let new : has scan.given.0 (low word) ≡ false = ap (has scan.given.0) (sym q) ∙ sym c.if-contains.ensures.is_membership in
     let right : (leb scan.floor (middle word) && not (has scan.given.0 (low word))) ≡ true = and_from _ _ (le-leb scan.floor (middle word) above) (ap not new) in
@@ -52,6 +52,6 @@ returns c =
       has_seen_one_more = λ before seen e.
           rw next (one_more_pair scan before word m c.requires.is_a_pair above seen
           (λ j. c.insert.ensures.adds_one j
-          ∙ ap (λ b. b && eqb j lane || has scan.given.0 j) (lt-ltb lane 16 few)
+          ∙ ap (λ b. b && eqb j lane || has scan.given.0 j) (lt-ltb lane 32 few)
           ∙ ap (λ x. eqb j x || has scan.given.0 j) q));
     }
