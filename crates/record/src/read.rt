@@ -9,7 +9,7 @@ use crate::bytes::{FEWEST_WORDS, MOST_WORDS};
 use crate::part::read_part;
 use crate::refusal::Refusal;
 use crate::scan::{ChoiceScan, PairScan, Sizes, TurnScan};
-use crate::word::{END, HEAD, kind_of, low_byte, middle_byte, number_in};
+use crate::word::{Kind, low_byte, middle_byte, number_in};
 
 // Whether a head has no unnamed bit, and both sizes are 1 to 16.
 fn head_within(word: u32) -> bool
@@ -26,7 +26,7 @@ fn read_head(words: &[u32]) -> Result<Sizes, Refusal>
     ensures sizes_or_first_fault { MatchResult result (λ z. ReadTo words.now 2 1 × ((z.streams ≡ middle (slice_index words.now 0)) × (z.lanes ≡ low (slice_index words.now 0)))) (λ f. earliest (fault_at words.now) (length words.now) ≡ Some (code_of f)) }
 {
     let word = words[0];
-    if kind_of(word) != HEAD {
+    if Kind::of(word) != Some(Kind::Head) {
         return Err(Refusal::Kind(0));
     }
     if !head_within(word) {
@@ -45,7 +45,7 @@ fn read_end(words: &[u32], at: usize) -> Result<(), Refusal>
     ensures end_or_first_fault { MatchResult result (λ _. (earliest (fault_at words.now) (length words.now) ≡ None) × (at + 1 ≡ length words.now)) (λ f. earliest (fault_at words.now) (length words.now) ≡ Some (code_of f)) }
 {
     let word = words[at];
-    if at + 1 != words.len() || kind_of(word) != END {
+    if at + 1 != words.len() || Kind::of(word) != Some(Kind::End) {
         return Err(Refusal::Kind(at as u16));
     }
     if number_in(word) as usize != at {

@@ -1,18 +1,40 @@
-ghost use Rattle.std.specs.Prelude.{◌≡◌};
+ghost use Rattle.std.specs.Prelude.{◌≡◌, ◌↔◌, Some};
 ghost use Rattle.record.specs.Faults.{kind, high, middle, low, number};
+ghost use Rattle.record.specs.Kinds.{kind_number};
+ghost use Rattle.record.specs.declared.word.Kind.{Kind};
 
 /// The kinds of words.
-pub const HEAD: u32 = 1;
+#[derive(Clone, Copy, PartialEq, Eq, Debug)]
+pub enum Kind {
+    /// 1: the sizes.
+    Head,
+    /// 2: a party's choice.
+    Choice,
+    /// 3: a party's turn.
+    Turn,
+    /// 4: a stream and its lane.
+    Pair,
+    /// 5: the number of the words before it.
+    End,
+}
 
-pub const CHOICE: u32 = 2;
+impl Kind {
+    /// The kind of a word, if its number is one's.
+    pub fn of(word: u32) -> Option<Kind>
+        ensures is_the_kind { (k : Kind) → (result ≡ Some k) ↔ (kind word ≡ kind_number k) }
+    {
+        match kind_of(word) {
+            1 => Some(Kind::Head),
+            2 => Some(Kind::Choice),
+            3 => Some(Kind::Turn),
+            4 => Some(Kind::Pair),
+            5 => Some(Kind::End),
+            _ => None,
+        }
+    }
+}
 
-pub const TURN: u32 = 3;
-
-pub const PAIR: u32 = 4;
-
-pub const END: u32 = 5;
-
-/// The kind of a word, its top four bits.
+/// The number of a word's kind, its top four bits.
 pub fn kind_of(word: u32) -> u32
     ensures is_the_kind { result ≡ kind word }
 {
