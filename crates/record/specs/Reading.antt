@@ -2,7 +2,8 @@
 use Rattle.std.specs.Prelude.{◌≡◌, ℕ, ◌+◌, ◌<◌, ◌≤◌, true, false, List, map, length, take, None, nat_eq, slice_index}
 use Rattle.std.specs.List.{between}
 use Rattle.record.specs.Lists.{every, earliest}
-use Rattle.record.specs.Format.{Content, choice_words, parties, turn_word, pair_word}
+use Rattle.record.specs.declared.read.Parts.{Parts}
+use Rattle.record.specs.Format.{Content, Records, choice_words, parties, turn_word, pair_word}
 use Rattle.record.specs.Faults.{kind, allowed, fault_at}
 use Rattle.record.specs.Scans.{KindsBelow}
 
@@ -30,3 +31,7 @@ pub record PartsOf (c : Content) (s g : ℕ) (choices : ℕ × List ℕ) (turns 
   pub turn_words : turns.1 ≡ map turn_word c.turns
   pub pairs_at : pairs.0 ≡ turns.0 + length turns.1
   pub pair_words : pairs.1 ≡ map pair_word c.pairs
+
+-- a record's words were read as these parts: they are the record of some content, and the parts are that content's
+abbrev pub ReadAs : List ℕ → Parts → Content → Type 0
+ReadAs words p c = Records words c × PartsOf c p.streams p.lanes (p.choices.at, p.choices.words.now) (p.turns.at, p.turns.words.now) (p.pairs.at, p.pairs.words.now)

@@ -15,11 +15,7 @@ fn word_at(bytes: &[u8], k: usize) -> u32
     requires whole { k < length bytes.now / 4 }
     ensures is_the_word { result ≡ word_at bytes.now k }
 {
-    let a = bytes[4 * k] as u32;
-    let b = bytes[4 * k + 1] as u32;
-    let c = bytes[4 * k + 2] as u32;
-    let d = bytes[4 * k + 3] as u32;
-    ((a * 256 + b) * 256 + c) * 256 + d
+    u32::from_be_bytes([bytes[4 * k], bytes[4 * k + 1], bytes[4 * k + 2], bytes[4 * k + 3]])
 }
 
 /// Writes the words of `bytes` at the front of `words`, answers their count, and leaves the other words.
@@ -36,8 +32,8 @@ pub fn words_of(bytes: &[u8], words: &mut [u32]) -> Result<usize, Refusal>
     if words.len() < count {
         return Err(Refusal::Room(count as u16));
     }
-    for k in 0..count {
-        words[k] = word_at(bytes, k);
+    for (k, word) in words[..count].iter_mut().enumerate() {
+        *word = word_at(bytes, k);
     }
     Ok(count)
 }

@@ -3,7 +3,7 @@ ghost use Rattle.record.specs.Refusals.{refused_by, code_of};
 ghost use Rattle.record.specs.Lists.{earliest};
 ghost use Rattle.record.specs.Faults.{kind, middle, low, head_within, fault_at, record_fault};
 ghost use Rattle.record.specs.Format.{Content, Records, OneContent, OneRecord};
-ghost use Rattle.record.specs.Reading.{ReadTo, PartsOf};
+ghost use Rattle.record.specs.Reading.{ReadTo, ReadAs};
 
 use crate::bytes::{FEWEST_WORDS, MOST_WORDS};
 use crate::part::read_part;
@@ -74,7 +74,7 @@ pub struct Parts<'a> {
 // Reads the parts, one after the other: the first fault found is the one answered.
 fn read_parts(words: &[u32]) -> Result<Parts<'_>, Refusal>
     ensures refused_as_told { refused_by result ≡ record_fault words.now }
-    ensures parts_of_the_content { IfOk result (λ p. ((c : Content) × (Records words.now c × PartsOf c p.streams p.lanes (p.choices.at, p.choices.words.now) (p.turns.at, p.turns.words.now) (p.pairs.at, p.pairs.words.now)))) }
+    ensures parts_of_the_content { IfOk result (λ p. ((c : Content) × ReadAs words.now p c)) }
 {
     if words.len() < FEWEST_WORDS || words.len() > MOST_WORDS {
         return Err(Refusal::Length);
@@ -108,7 +108,7 @@ fn read_parts(words: &[u32]) -> Result<Parts<'_>, Refusal>
 /// Reads a record in one pass over its words. Refuses 1 for its length, else 2, 3 or 4 for the earliest faulty word.
 pub fn read(words: &[u32]) -> Result<Parts<'_>, Refusal>
     ensures refused_as_told { refused_by result ≡ record_fault words.now }
-    ensures parts_of_the_content { IfOk result (λ p. ((c : Content) × (Records words.now c × PartsOf c p.streams p.lanes (p.choices.at, p.choices.words.now) (p.turns.at, p.turns.words.now) (p.pairs.at, p.pairs.words.now)))) }
+    ensures parts_of_the_content { IfOk result (λ p. ((c : Content) × ReadAs words.now p c)) }
     ensures reads_every_record { (c : Content) → Records words.now c → is_ok result ≡ true }
     ensures one_content_a_record { OneContent }
     ensures one_record_a_content { OneRecord }

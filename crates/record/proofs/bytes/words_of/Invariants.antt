@@ -1,10 +1,8 @@
-use Rattle.std.proofs.Common.{◌≡◌, map, take, drop}
+use Rattle.std.proofs.Common.{◌≡◌, map, take}
 use Rattle.std.specs.List.{range_with_len}
 use Rattle.record.specs.Bytes.{word_at}
 use Rattle.record.proofs.bytes.words_of.Given as goal
 
--- the words so far stand at the front, and the rest is as it was
+-- the words so far stand at the front
 abbrev pub invariant-loop-k : goal.invariant-loop-k
-invariant-loop-k l =
-    (take l.k l.words ≡ map (word_at l.bytes) (range_with_len 0 l.k))
-    × (drop l.k l.words ≡ drop l.k l.initial.words)
+invariant-loop-k l = take l.k l.word-items ≡ map (word_at l.bytes) (range_with_len 0 l.k)
