@@ -2,7 +2,7 @@
 use Rattle.std.specs.Prelude.{◌≡◌, ℕ, ◌+◌, ◌<◌, ◌≤◌, true, false, List, map, length, take, None, nat_eq, slice_index}
 use Rattle.std.specs.List.{between}
 use Rattle.record.specs.Lists.{every, earliest}
-use Rattle.record.specs.declared.read.Parts.{Parts}
+use Rattle.record.specs.declared.parts.Parts.{Parts}
 use Rattle.record.specs.Format.{Content, Records, choice_words, parties, turn_word, pair_word}
 use Rattle.record.specs.Faults.{kind, allowed, fault_at}
 use Rattle.record.specs.Scans.{KindsBelow}
@@ -34,4 +34,4 @@ pub record PartsOf (c : Content) (s g : ℕ) (choices : ℕ × List ℕ) (turns 
 
 -- a record's words were read as these parts: they are the record of some content, and the parts are that content's
 abbrev pub ReadAs : List ℕ → Parts → Content → Type 0
-ReadAs words p c = Records words c × PartsOf c p.streams p.lanes (p.choices.at, p.choices.words.now) (p.turns.at, p.turns.words.now) (p.pairs.at, p.pairs.words.now)
+ReadAs words p c = Records words c × PartsOf c p.sizes.streams p.sizes.lanes (p.choices.at, p.choices.words.now) (p.turns.at, p.turns.words.now) (p.pairs.at, p.pairs.words.now)

@@ -4,9 +4,11 @@
 pub mod bytes;
 mod order;
 mod part;
+pub mod parts;
 pub mod read;
 pub mod refusal;
 mod scan;
+pub mod sizes;
 #[cfg(test)]
 mod tests;
 pub mod word;

@@ -5,7 +5,8 @@ ghost use Rattle.record.specs.Scans.{KindsBelow, OwnerSeen, ChoicesSeen, TurnsSe
 
 use sets::Members;
 use crate::refusal::Refusal;
-use crate::scan::{ChoiceScan, PairScan, Sizes, TurnScan};
+use crate::scan::{ChoiceScan, PairScan, TurnScan};
+use crate::sizes::Sizes;
 use crate::word::{high_byte, low_byte, middle_byte};
 
 /// The most turns of a record.

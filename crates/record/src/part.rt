@@ -8,7 +8,8 @@ ghost use Rattle.record.specs.Scans.{ChoicesSeen, TurnsSeen, PairsSeen};
 ghost use Rattle.record.specs.Reading.{ReadTo, PartRead};
 
 use crate::refusal::Refusal;
-use crate::scan::{ChoiceScan, PairScan, Sizes, TurnScan};
+use crate::scan::{ChoiceScan, PairScan, TurnScan};
+use crate::sizes::Sizes;
 use crate::word::Kind;
 
 /// What a reader keeps while it goes through the words of one kind.

@@ -7,8 +7,10 @@ ghost use Rattle.record.specs.Reading.{ReadTo, ReadAs};
 
 use crate::bytes::{FEWEST_WORDS, MOST_WORDS};
 use crate::part::read_part;
+use crate::parts::{Part, Parts};
 use crate::refusal::Refusal;
-use crate::scan::{ChoiceScan, PairScan, Sizes, TurnScan};
+use crate::scan::{ChoiceScan, PairScan, TurnScan};
+use crate::sizes::Sizes;
 use crate::word::{Kind, low_byte, middle_byte, number_in};
 
 // Whether a head has no unnamed bit, and both sizes are 1 to 16.
@@ -54,23 +56,6 @@ fn read_end(words: &[u32], at: usize) -> Result<(), Refusal>
     Ok(())
 }
 
-/// A part of a record: words of the caller's own list, and the place of the first; where there is none, where it would be.
-#[derive(Clone, Copy)]
-pub struct Part<'a> {
-    pub at: usize,
-    pub words: &'a [u32],
-}
-
-/// What a record says: the sizes, and the choices, the turns and the pairs as parts of the caller's own words.
-#[derive(Clone, Copy)]
-pub struct Parts<'a> {
-    pub streams: u8,
-    pub lanes: u8,
-    pub choices: Part<'a>,
-    pub turns: Part<'a>,
-    pub pairs: Part<'a>,
-}
-
 // Reads the parts, one after the other: the first fault found is the one answered.
 fn read_parts(words: &[u32]) -> Result<Parts<'_>, Refusal>
     ensures refused_as_told { refused_by result ≡ record_fault words.now }
@@ -97,8 +82,7 @@ fn read_parts(words: &[u32]) -> Result<Parts<'_>, Refusal>
         words: &words[pairs_at..end_at],
     };
     Ok(Parts {
-        streams: sizes.streams,
-        lanes: sizes.lanes,
+        sizes,
         choices,
         turns,
         pairs,

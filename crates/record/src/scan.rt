@@ -1,14 +1,4 @@
-ghost use Rattle.std.specs.Prelude.{◌≤◌};
-
 use sets::Members;
-
-/// How many streams and lanes there are, 1 to 16 of each.
-#[derive(Clone, Copy, PartialEq, Eq)]
-pub struct Sizes {
-    pub(crate) streams: u8,
-    pub(crate) lanes: u8,
-    ghost lawful: { (1 ≤ streams) × (streams ≤ 16) × (1 ≤ lanes) × (lanes ≤ 16) },
-}
 
 /// What a reader keeps of the choices so far: the last owner, the place of its next choice, and whom it has named.
 #[derive(Clone, Copy)]
