@@ -6,7 +6,7 @@ use Rattle.std.proofs.lemmas.Bool.{and_parts, eq-eqb, ne_eqb, leb-true, ltb-true
 use Rattle.std.proofs.lemmas.Bool.Decides.{nat_tests}
 use Rattle.record.specs.Refusals.{refuse_if, or_else}
 use Rattle.record.specs.Lists.{every, among}
-use Rattle.record.specs.Faults.{kind, high, middle, low, of_kind, ranked_by, turns_in, pairs_in, pair_of, choice_within, choice_in_order, turn_in_order, pair_within, pair_in_order}
+use Rattle.record.specs.Faults.{by_kind, within, in_order, head_within, turn_within, end_in_order, kind, high, middle, low, of_kind, ranked_by, turns_in, pairs_in, pair_of, choice_within, choice_in_order, turn_in_order, pair_within, pair_in_order}
 use Rattle.record.specs.Format.{facing}
 use Rattle.sets.specs.Sets.{has}
 use Rattle.record.specs.Scans.{KindsBelow, OwnerSeen, ChoicesSeen, TurnsSeen, PairsSeen}
@@ -162,6 +162,14 @@ pub pair_small : (s g w : ℕ) → g ≤ 16 → pair_within s g w ≡ true → l
 pair_small s g w b e =
     let p = and_parts (ltb (middle w) s) (ltb (low w) g) (and_parts (eqb (w / 65536 % 4096) 0) (ltb (middle w) s && ltb (low w) g) e).1 in
     omega (arith, ltb-true (low w) g p.1)
+
+-- of a word of kind k, the rules of that kind decide
+pub kind_decides : (s g w k : ℕ) (before : List ℕ) (p q : ℕ × ℕ) → kind w ≡ k → or_else (refuse_if (not (within s g w)) p) (refuse_if (not (in_order before w)) q)
+    ≡ or_else (refuse_if (not (by_kind k (head_within w) (choice_within s g w) (turn_within s g w) (pair_within s g w) true)) p)
+    (refuse_if (not (by_kind k true (choice_in_order before w) (turn_in_order before) (pair_in_order before w) (end_in_order before w))) q)
+kind_decides s g w k before p q e =
+    ap (λ j. or_else (refuse_if (not (by_kind j (head_within w) (choice_within s g w) (turn_within s g w) (pair_within s g w) true)) p)
+    (refuse_if (not (by_kind j true (choice_in_order before w) (turn_in_order before) (pair_in_order before w) (end_in_order before w))) q)) e
 
 -- of a word whose bits and numbers are right, the order decides
 pub order_decides : (w o x : Bool) (p q : ℕ × ℕ) → w ≡ true → o ≡ x → or_else (refuse_if (not w) p) (refuse_if (not o) q) ≡ refuse_if (not x) q

@@ -15,7 +15,12 @@ fn word_at(bytes: &[u8], k: usize) -> u32
     requires whole { k < length bytes.now / 4 }
     ensures is_the_word { result ≡ word_at bytes.now k }
 {
-    u32::from_be_bytes([bytes[4 * k], bytes[4 * k + 1], bytes[4 * k + 2], bytes[4 * k + 3]])
+    u32::from_be_bytes([
+        bytes[4 * k],
+        bytes[4 * k + 1],
+        bytes[4 * k + 2],
+        bytes[4 * k + 3],
+    ])
 }
 
 /// Writes the words of `bytes` at the front of `words`, answers their count, and leaves the other words.

@@ -1,13 +1,15 @@
 ghost use Rattle.std.specs.Prelude.{◌≡◌, ℕ, ◌+◌, ◌<◌, ◌≤◌, not, List, [], ◌∷◌, ◌++◌, None, OnErr};
 ghost use Rattle.record.specs.Refusals.{refused_by, refuse_if, or_else};
 ghost use Rattle.record.specs.Faults.{choice_within, choice_in_order, turn_within, turn_in_order, pair_within, pair_in_order, kind, high};
+ghost use Rattle.record.specs.declared.word.Kind.{Kind};
 ghost use Rattle.record.specs.Scans.{KindsBelow, OwnerSeen, ChoicesSeen, TurnsSeen, PairsSeen};
 
-use sets::Members;
+use crate::part::Scan;
 use crate::refusal::Refusal;
 use crate::scan::{ChoiceScan, PairScan, TurnScan};
 use crate::sizes::Sizes;
-use crate::word::{high_byte, low_byte, middle_byte};
+use crate::word::{Kind, high_byte, low_byte, middle_byte};
+use sets::Members;
 
 /// The most turns of a record.
 pub(crate) const MOST_TURNS: u16 = 7600;
@@ -55,14 +57,18 @@ impl ChoiceScan {
             named: Members::none(),
         }
     }
+}
 
-    /// Reads one more choice, the word at `at`.
-    pub(crate) fn choice(&mut self, sizes: Sizes, word: u32, at: u16) -> Result<(), Refusal>
-        requires is_a_choice { kind word ≡ 2 }
-        ensures refused_as_told { (before : List ℕ) → ChoicesSeen self.old before → refused_by result ≡ or_else (refuse_if (not (choice_within sizes.streams sizes.lanes word)) (3, at)) (refuse_if (not (choice_in_order before word)) (4, at)) }
-        ensures refused_changes_nothing { OnErr result (self.new ≡ self.old) }
-        ensures has_seen_one_more { (before : List ℕ) → ChoicesSeen self.old before → refused_by result ≡ None → ChoicesSeen self.new (before ++ word ∷ []) }
-    {
+impl Scan for ChoiceScan {
+    ghost scans = { λ _. Kind.Choice };
+
+    ghost sees = { ChoicesSeen };
+
+    fn kind(&self) -> Kind {
+        Kind::Choice
+    }
+
+    fn word(&mut self, sizes: Sizes, word: u32, at: u16) -> Result<(), Refusal> {
         let owner = high_byte(word);
         let ranked = low_byte(word);
         if !choice_within(sizes, word) {
@@ -89,14 +95,18 @@ impl TurnScan {
     {
         TurnScan { count: 0 }
     }
+}
 
-    /// Reads one more turn, the word at `at`.
-    pub(crate) fn turn(&mut self, sizes: Sizes, word: u32, at: u16) -> Result<(), Refusal>
-        requires is_a_turn { kind word ≡ 3 }
-        ensures refused_as_told { (before : List ℕ) → TurnsSeen self.old before → refused_by result ≡ or_else (refuse_if (not (turn_within sizes.streams sizes.lanes word)) (3, at)) (refuse_if (not (turn_in_order before)) (4, at)) }
-        ensures refused_changes_nothing { OnErr result (self.new ≡ self.old) }
-        ensures has_seen_one_more { (before : List ℕ) → TurnsSeen self.old before → refused_by result ≡ None → TurnsSeen self.new (before ++ word ∷ []) }
-    {
+impl Scan for TurnScan {
+    ghost scans = { λ _. Kind.Turn };
+
+    ghost sees = { TurnsSeen };
+
+    fn kind(&self) -> Kind {
+        Kind::Turn
+    }
+
+    fn word(&mut self, sizes: Sizes, word: u32, at: u16) -> Result<(), Refusal> {
         if (word >> 8) % 0x10_0000 != 0 || low_byte(word) >= sizes.streams + sizes.lanes {
             return Err(Refusal::Limit(at));
         }
@@ -125,14 +135,18 @@ impl PairScan {
             given: Members::none(),
         }
     }
+}
 
-    /// Reads one more pair, the word at `at`.
-    pub(crate) fn pair(&mut self, sizes: Sizes, word: u32, at: u16) -> Result<(), Refusal>
-        requires is_a_pair { kind word ≡ 4 }
-        ensures refused_as_told { (before : List ℕ) → PairsSeen self.old before → refused_by result ≡ or_else (refuse_if (not (pair_within sizes.streams sizes.lanes word)) (3, at)) (refuse_if (not (pair_in_order before word)) (4, at)) }
-        ensures refused_changes_nothing { OnErr result (self.new ≡ self.old) }
-        ensures has_seen_one_more { (before : List ℕ) → PairsSeen self.old before → refused_by result ≡ None → PairsSeen self.new (before ++ word ∷ []) }
-    {
+impl Scan for PairScan {
+    ghost scans = { λ _. Kind.Pair };
+
+    ghost sees = { PairsSeen };
+
+    fn kind(&self) -> Kind {
+        Kind::Pair
+    }
+
+    fn word(&mut self, sizes: Sizes, word: u32, at: u16) -> Result<(), Refusal> {
         let stream = middle_byte(word) as u16;
         let lane = low_byte(word);
         if !pair_within(sizes, word) {

@@ -1,14 +1,12 @@
-ghost use Rattle.std.specs.Prelude.{◌≡◌, ℕ, ◌+◌, ◌<◌, ◌≤◌, true, not, List, [], ◌∷◌, ◌++◌, length, take, Some, None, MatchResult, slice_index};
+ghost use Rattle.std.specs.Prelude.{◌≡◌, ℕ, ◌+◌, ◌<◌, ◌≤◌, true, not, List, [], ◌∷◌, ◌++◌, length, take, Some, None, OnErr, MatchResult, slice_index};
 ghost use Rattle.record.specs.Refusals.{refused_by, refuse_if, or_else, code_of};
 ghost use Rattle.record.specs.Lists.{earliest};
 ghost use Rattle.record.specs.Kinds.{kind_number};
 ghost use Rattle.record.specs.declared.word.Kind.{Kind};
 ghost use Rattle.record.specs.Faults.{kind, middle, low, within, in_order, fault_at};
-ghost use Rattle.record.specs.Scans.{ChoicesSeen, TurnsSeen, PairsSeen};
 ghost use Rattle.record.specs.Reading.{ReadTo, PartRead};
 
 use crate::refusal::Refusal;
-use crate::scan::{ChoiceScan, PairScan, TurnScan};
 use crate::sizes::Sizes;
 use crate::word::Kind;
 
@@ -29,49 +27,8 @@ pub trait Scan {
         requires of_the_kind { kind word ≡ kind_number (scans self.old) }
         ensures same_kind { scans self.new ≡ scans self.old }
         ensures refused_as_told { (before : List ℕ) → sees self.old before → refused_by result ≡ or_else (refuse_if (not (within sizes.streams sizes.lanes word)) (3, at)) (refuse_if (not (in_order before word)) (4, at)) }
+        ensures refused_changes_nothing { OnErr result (self.new ≡ self.old) }
         ensures has_seen_one_more { (before : List ℕ) → sees self.old before → refused_by result ≡ None → sees self.new (before ++ word ∷ []) };
-}
-
-impl Scan for ChoiceScan {
-    ghost scans = { λ _. Kind.Choice };
-
-    ghost sees = { ChoicesSeen };
-
-    fn kind(&self) -> Kind {
-        Kind::Choice
-    }
-
-    fn word(&mut self, sizes: Sizes, word: u32, at: u16) -> Result<(), Refusal> {
-        self.choice(sizes, word, at)
-    }
-}
-
-impl Scan for TurnScan {
-    ghost scans = { λ _. Kind.Turn };
-
-    ghost sees = { TurnsSeen };
-
-    fn kind(&self) -> Kind {
-        Kind::Turn
-    }
-
-    fn word(&mut self, sizes: Sizes, word: u32, at: u16) -> Result<(), Refusal> {
-        self.turn(sizes, word, at)
-    }
-}
-
-impl Scan for PairScan {
-    ghost scans = { λ _. Kind.Pair };
-
-    ghost sees = { PairsSeen };
-
-    fn kind(&self) -> Kind {
-        Kind::Pair
-    }
-
-    fn word(&mut self, sizes: Sizes, word: u32, at: u16) -> Result<(), Refusal> {
-        self.pair(sizes, word, at)
-    }
 }
 
 /// Reads the words of one kind from `from` on, and answers where they end.

@@ -92,8 +92,8 @@ const READINGS: &[Reading] = &[
 fn records_have_their_parts(rt: HostRuntime) -> Result<(), Fail> {
     for reading in READINGS {
         let parts = read(reading.words)?;
-        assert_eq!(rt; parts.streams, reading.streams);
-        assert_eq!(rt; parts.lanes, reading.lanes);
+        assert_eq!(rt; parts.sizes.streams, reading.streams);
+        assert_eq!(rt; parts.sizes.lanes, reading.lanes);
         assert_eq!(rt; parts.choices.at, 1);
         assert!(rt; parts.choices.words == reading.choices);
         assert_eq!(rt; parts.turns.at, reading.turns_at);

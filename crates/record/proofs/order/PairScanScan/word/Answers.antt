@@ -3,15 +3,17 @@ use Rattle.std.proofs.lemmas.Bool.{lt-ltb, le-leb, lt-leb, and_left, and_right, 
 use Rattle.sets.specs.Sets.{has}
 use Rattle.record.specs.Faults.{low, middle, pair_within}
 use Rattle.record.specs.declared.scan.PairScan.{PairScan}
-use Rattle.record.proofs.Scanning.{pair_order, one_more_pair, pair_small, order_decides}
-use Rattle.record.proofs.scan.PairScan.pair.Goals as goal
-use Rattle.record.proofs.scan.PairScan.pair.Goals.{then-stream-self-via-then-stream-self, then-stream-self-via-else-stream-self+then-contains}
+use Rattle.record.proofs.Scanning.{kind_decides, pair_order, one_more_pair, pair_small, order_decides}
+use Rattle.record.proofs.order.PairScanScan.word.Goals as goal
+use Rattle.record.proofs.order.PairScanScan.word.Goals.{then-stream-self-via-then-stream-self, then-stream-self-via-else-stream-self+then-contains}
 
 pub returns-then-stream-self : goal.returns-then-stream-self
 returns-then-stream-self c =
     record {
+      same_kind = refl;
       refused_as_told = λ before seen.
-          sym (order_decides _ _ false (3, c.args.at) (4, c.args.at) (sym c.if-not-pair_within.ensures.is_the_rule) (pair_order scan before word seen ∙ wrong));
+          sym (kind_decides c.args.sizes.streams c.args.sizes.lanes c.args.word 4 before (3, c.args.at) (4, c.args.at) c.requires.of_the_kind
+          ∙ order_decides _ _ false (3, c.args.at) (4, c.args.at) (sym c.if-not-pair_within.ensures.is_the_rule) (pair_order scan before word seen ∙ wrong));
       refused_changes_nothing = refl;
       has_seen_one_more = λ before seen e. grind arith;
     }
@@ -46,11 +48,13 @@ returns c =
     let right : (leb scan.floor (middle word) && not (has scan.given.0 (low word))) ≡ true = and_from _ _ (le-leb scan.floor (middle word) above) (ap not new) in
     let next : c.middle_byte-stream.result + 1 ≡ middle word + 1 = omega arith in
     record {
+      same_kind = refl;
       refused_as_told = λ before seen.
-          sym (order_decides _ _ true (3, c.args.at) (4, c.args.at) w (pair_order scan before word seen ∙ right));
+          sym (kind_decides c.args.sizes.streams c.args.sizes.lanes c.args.word 4 before (3, c.args.at) (4, c.args.at) c.requires.of_the_kind
+          ∙ order_decides _ _ true (3, c.args.at) (4, c.args.at) w (pair_order scan before word seen ∙ right));
       refused_changes_nothing = tt;
       has_seen_one_more = λ before seen e.
-          rw next (one_more_pair scan before word m c.requires.is_a_pair above seen
+          rw next (one_more_pair scan before word m c.requires.of_the_kind above seen
           (λ j. c.insert.ensures.adds_one j
           ∙ ap (λ b. b && eqb j lane || has scan.given.0 j) (lt-ltb lane 32 few)
           ∙ ap (λ x. eqb j x || has scan.given.0 j) q));

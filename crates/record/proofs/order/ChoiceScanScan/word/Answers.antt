@@ -1,19 +1,19 @@
 use Rattle.std.proofs.Common.{◌≡◌, ◌<◌, ◌≤◌, true, false, not, ◌&&◌, ◌||◌, eqb, sym, refl, ap, ◌∙◌, arith}
 use Rattle.std.proofs.lemmas.Bool.{lt-ltb, eq-eqb}
-use Rattle.record.specs.Refusals.{refuse_if, or_else}
 use Rattle.sets.specs.Sets.{has}
-use Rattle.record.specs.Faults.{high, low, middle, choice_within, choice_in_order}
-use Rattle.record.proofs.Scanning.{choice_below, choice_order, one_more_choice, choice_small}
-use Rattle.record.proofs.scan.ChoiceScan.choice.Goals as goal
+use Rattle.record.specs.Faults.{high, low, middle, choice_within}
+use Rattle.record.proofs.Scanning.{kind_decides, order_decides, choice_below, choice_order, one_more_choice, choice_small}
+use Rattle.record.proofs.order.ChoiceScanScan.word.Goals as goal
 
 pub returns-then-owner-self : goal.returns-then-owner-self
 returns-then-owner-self c =
     let h : high c.args.word < c.args.self.now.owner = omega arith in
     record {
+      same_kind = refl;
       refused_as_told = λ before seen.
           let o = choice_below c.args.self.now before c.args.word h seen in
-          let w = c.if-not-choice_within.ensures.is_the_rule in
-          sym (ap (λ b. or_else (refuse_if (not b) (3, c.args.at)) (refuse_if (not (choice_in_order before c.args.word)) (4, c.args.at))) (sym w) ∙ ap (λ b. refuse_if (not b) (4, c.args.at)) o);
+          sym (kind_decides c.args.sizes.streams c.args.sizes.lanes c.args.word 2 before (3, c.args.at) (4, c.args.at) c.requires.of_the_kind
+          ∙ order_decides _ _ false (3, c.args.at) (4, c.args.at) (sym c.if-not-choice_within.ensures.is_the_rule) o);
       refused_changes_nothing = refl;
       has_seen_one_more = λ before seen e. grind arith;
     }
@@ -33,13 +33,14 @@ returns c =
     let new : has at.named.0 (low word) ≡ false = ap (has at.named.0) (sym q) ∙ sym c.if-contains.ensures.is_membership in
     let kept = c.at_owner-scan.ensures.keeps_what_was_seen in
     record {
+      same_kind = refl;
       refused_as_told = λ before seen.
           let order = choice_order scan at before word l o seen (kept before seen) in
-          sym (ap (λ b. or_else (refuse_if (not b) (3, c.args.at)) (refuse_if (not (choice_in_order before word)) (4, c.args.at))) w
-          ∙ ap (λ b. refuse_if (not b) (4, c.args.at)) (order ∙ ap (λ b. b && not (has at.named.0 (low word))) place ∙ ap not new));
+          sym (kind_decides sizes.streams sizes.lanes word 2 before (3, c.args.at) (4, c.args.at) c.requires.of_the_kind
+          ∙ order_decides _ _ true (3, c.args.at) (4, c.args.at) w (order ∙ ap (λ b. b && not (has at.named.0 (low word))) place ∙ ap not new));
       refused_changes_nothing = tt;
       has_seen_one_more = λ before seen e.
-          one_more_choice scan at before word c.insert.new.self c.requires.is_a_choice l o seen (kept before seen)
+          one_more_choice scan at before word c.insert.new.self c.requires.of_the_kind l o seen (kept before seen)
           (λ j. c.insert.ensures.adds_one j
           ∙ ap (λ b. b && eqb j c.low_byte-ranked.result || has at.named.0 j) (lt-ltb c.low_byte-ranked.result 32 few)
           ∙ ap (λ x. eqb j x || has at.named.0 j) q);
