@@ -35,7 +35,7 @@ pub fn judge(words: &[u32]) -> Result<Judged, Refusal>
 {
     let mut listing = Listing::new();
     let parts = listing.fill(words)?;
-    let streams = parts.streams;
+    let streams = parts.sizes.streams;
     let lanes = lanes_of(parts.pairs.words);
     let finding = find(&listing, &lanes[0..streams as usize])?;
     Ok(Judged {

@@ -1,14 +1,15 @@
 ghost use Rattle.std.specs.Prelude.{◌≡◌, ℕ, ◌+◌, ◌<◌, ◌≤◌, true, false, List, length, take, IfOk, OnErr, OnOk, slice_index};
 ghost use Rattle.record.specs.Refusals.{refused_by};
-ghost use Rattle.record.specs.Format.{Content, Records};
-ghost use Rattle.record.specs.Reading.{PartsOf};
+ghost use Rattle.record.specs.Format.{Content};
+ghost use Rattle.record.specs.Reading.{ReadAs};
 ghost use Rattle.ranking.specs.Places.{place_at, Enterable, Entered};
 ghost use Rattle.ranking.specs.Listings.{listed, unlisted, content_meaning, fill_fault};
 ghost use Rattle.ranking.specs.TableLaws.{table_strict, table_bounded};
 
 use crate::interface::Ranking;
 use crate::table::{Listing, TABLE};
-use record::read::{Parts, read};
+use record::parts::Parts;
+use record::read::read;
 use record::refusal::Refusal;
 use record::word::{high_byte, low_byte, middle_byte};
 
@@ -49,7 +50,7 @@ impl Listing {
     /// Refuses what reading refuses, then 11 where it was filled before.
     pub fn fill<'a>(&mut self, words: &'a [u32]) -> Result<Parts<'a>, Refusal>
         ensures refused_as_told { refused_by result ≡ fill_fault words.now self.old.filled }
-        ensures ranks_by_the_content { IfOk result (λ p. ((c : Content) × (Records words.now c × PartsOf c p.streams p.lanes (p.choices.at, p.choices.words.now) (p.turns.at, p.turns.words.now) (p.pairs.at, p.pairs.words.now) × (listed self.new ≡ content_meaning c)))) }
+        ensures ranks_by_the_content { IfOk result (λ p. ((c : Content) × (ReadAs words.now p c × (listed self.new ≡ content_meaning c)))) }
         ensures filled_once { OnOk result (self.new.filled ≡ true) }
         ensures refused_changes_nothing { OnErr result (self.new ≡ self.old) }
     {
@@ -59,8 +60,8 @@ impl Listing {
         }
         let places = places_of(parts.choices.words);
         *self = Listing {
-            streams: parts.streams,
-            lanes: parts.lanes,
+            streams: parts.sizes.streams,
+            lanes: parts.sizes.lanes,
             places,
             filled: true,
         };

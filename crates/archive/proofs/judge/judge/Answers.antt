@@ -18,8 +18,8 @@ pub lanes_of-lanes-requires : goal.lanes_of-lanes-requires
 lanes_of-lanes-requires c =
     let told = c.in_ok-parts.ensures.ranks_by_the_content in
     let content = told.0 in
-    let law = told.1.0.lawful in
-    let e = ap (map middle) told.1.1.pair_words ∙ pair_streams content.pairs (pair_bytes content law) in
+    let law = told.1.0.0.lawful in
+    let e = ap (map middle) told.1.0.1.pair_words ∙ pair_streams content.pairs (pair_bytes content law) in
     record {
       streams_rise = subst Rising (sym e) law.streams_rise;
       streams_are_few = subst (AllByRecursion (λ x. x < 16)) (sym e) (few_streams_of content law);
@@ -46,28 +46,28 @@ never code e = grind arith
 pub returns-in_err-finding : goal.returns-in_err-finding
 returns-in_err-finding c =
     let told = c.in_ok-parts.ensures.ranks_by_the_content in
-    let law = told.1.0.lawful in
-    let bytes = cut told.0 law c.in_ok-parts.parts.pairs.words.now c.lanes_of-lanes.result c.in_ok-parts.parts.streams told.1.1.streams told.1.1.pair_words c.lanes_of-lanes.ensures.is_whole c.lanes_of-lanes.ensures.has_every_pair in
-    absurd (never _ (c.in_err-finding.ensures.refused_as_told ∙ not_refused told.0 law _ _ told.1.2 bytes))
+    let law = told.1.0.0.lawful in
+    let bytes = cut told.0 law c.in_ok-parts.parts.pairs.words.now c.lanes_of-lanes.result c.in_ok-parts.parts.sizes.streams told.1.0.1.streams told.1.0.1.pair_words c.lanes_of-lanes.ensures.is_whole c.lanes_of-lanes.ensures.has_every_pair in
+    absurd (never _ (c.in_err-finding.ensures.refused_as_told ∙ not_refused told.0 law _ _ told.1.1 bytes))
 
 pub returns : goal.returns
 returns c =
     let told = c.in_ok-parts.ensures.ranks_by_the_content in
     let content = told.0 in
-    let law = told.1.0.lawful in
+    let law = told.1.0.0.lawful in
     let lanes = c.lanes_of-lanes.result in
-    let n = c.in_ok-parts.parts.streams in
-    let bytes = cut content law c.in_ok-parts.parts.pairs.words.now lanes n told.1.1.streams told.1.1.pair_words c.lanes_of-lanes.ensures.is_whole c.lanes_of-lanes.ensures.has_every_pair in
+    let n = c.in_ok-parts.parts.sizes.streams in
+    let bytes = cut content law c.in_ok-parts.parts.pairs.words.now lanes n told.1.0.1.streams told.1.0.1.pair_words c.lanes_of-lanes.ensures.is_whole c.lanes_of-lanes.ensures.has_every_pair in
     let whole : take n lanes ≡ take (n - 0) lanes = let z : n ≡ n - 0 = omega arith in ap (λ k. take k lanes) z in
-    let found = subst (λ x. Found (market_of x) (holding_of (market_of x) (take (n - 0) lanes)) c.in_ok-finding.finding) told.1.2 c.in_ok-finding.ensures.found_as_told in
+    let found = subst (λ x. Found (market_of x) (holding_of (market_of x) (take (n - 0) lanes)) c.in_ok-finding.finding) told.1.1 c.in_ok-finding.ensures.found_as_told in
     record {
-      refused_as_told = sym (record_faultless c.args.words.now content told.1.0);
+      refused_as_told = sym (record_faultless c.args.words.now content told.1.0.0);
       judged_by_the_content = (
         content,
         (
-          told.1.0,
+          told.1.0.0,
           record {
-            streams = told.1.1.streams;
+            streams = told.1.0.1.streams;
             pairing = whole ∙ bytes;
             finding = subst (λ l. Found (market_of (content_meaning content)) (holding_of (market_of (content_meaning content)) l) c.in_ok-finding.finding) bytes found;
           },

@@ -33,9 +33,8 @@ returns c =
       ranks_by_the_content = (
         told.0,
         (
-          told.1.0,
-          parts,
-          table_content told.0 told.1.0.lawful c.in_ok-parts.parts.choices.words.now c.places_of-places.result c.in_ok-parts.parts.streams c.in_ok-parts.parts.lanes parts.choice_part c.places_of-places.ensures.has_every_place parts.streams parts.lanes,
+          told.1,
+          table_content told.0 told.1.0.lawful c.in_ok-parts.parts.choices.words.now c.places_of-places.result c.in_ok-parts.parts.sizes.streams c.in_ok-parts.parts.sizes.lanes parts.choice_part c.places_of-places.ensures.has_every_place parts.streams parts.lanes,
         ),
       );
       filled_once = refl;
