@@ -1,15 +1,9 @@
 -- Texts written one after the other.
-use Rattle.std.proofs.Common.{◌≡◌, ℕ, suc, ◌+◌, ◌<◌, ◌≤◌, List, [], ◌∷◌, ◌++◌, length, get_or, take, drop, set, sym, refl, ap, ◌∙◌, subst, append_assoc, zero-add, arith}
-use Rattle.std.proofs.lemmas.List.{length-append, length-set, take_more_set, drop-set-lt, drop-drop, take_more, append-nil, length-take-le}
+use Rattle.std.proofs.Common.{◌≡◌, ℕ, suc, ◌+◌, ◌<◌, List, [], ◌∷◌, ◌++◌, length, get_or, take, drop, sym, refl, ap, ◌∙◌, subst, append_assoc, zero-add, arith}
+use Rattle.std.proofs.lemmas.List.{length-append, drop-drop, take_more, append-nil, length-take-le}
 use Rattle.record.specs.Bytes.{WrittenFront}
 use Rattle.archive.specs.Texts.{Wrote, pair_line}
 use Rattle.archive.specs.Judging.{pair_lines}
-
-pub wrote_nothing : (o : List ℕ) (i : ℕ) → Wrote o i [] o i
-wrote_nothing o i = record { place = omega arith; front = sym (append-nil (take i o)); rest = refl; size = refl }
-
-pub wrote_byte : (o : List ℕ) (i b : ℕ) → i < length o → Wrote o i (b ∷ []) (set o i b) (i + 1)
-wrote_byte o i b h = record { place = refl; front = take_more_set o i b h; rest = drop-set-lt (i + 1) o i b (omega arith); size = length-set o i b }
 
 pub wrote_both : (o p q a b : List ℕ) (i r s : ℕ) → Wrote o i a p r → Wrote p r b q s → Wrote o i (a ++ b) q s
 wrote_both o p q a b i r s x y = record {
@@ -24,13 +18,6 @@ wrote_both o p q a b i r s x y = record {
 
     further : drop s p ≡ drop s o
     further = ap (λ n. drop n p) e ∙ sym (drop-drop (length b) r p) ∙ ap (drop (length b)) x.rest ∙ drop-drop (length b) r o ∙ ap (λ n. drop n o) (sym e)
-
--- one more byte of a list of bytes
-pub wrote_more : (o p bs : List ℕ) (i k : ℕ) → k < length bs → i + length bs ≤ length o → Wrote o i (take k bs) p (i + k) → Wrote o i (take (k + 1) bs) (set p (i + k) (get_or bs k 0)) (i + (k + 1))
-wrote_more o p bs i k h l w =
-    let z = wrote_both o p (set p (i + k) (get_or bs k 0)) (take k bs) (get_or bs k 0 ∷ []) i (i + k) (i + k + 1) w (wrote_byte p (i + k) (get_or bs k 0) (omega (arith, w.size))) in
-    let e : i + k + 1 ≡ i + (k + 1) = omega arith in
-    rw (take_more bs k 0 h) (rw e at z)
 
 -- the same text, and the same next place
 pub wrote_as : (o p a b : List ℕ) (i r s : ℕ) → a ≡ b → r ≡ s → Wrote o i a p r → Wrote o i b p s

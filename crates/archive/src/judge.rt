@@ -21,8 +21,7 @@ fn lanes_of(pairs: &[u32]) -> [u8; MOST_STREAMS]
     ensures is_whole { length result ≡ 16 }
 {
     let mut lanes = [NOBODY; MOST_STREAMS];
-    for k in 0..pairs.len() {
-        let word = pairs[k];
+    for &word in pairs {
         lanes[middle_byte(word) as usize] = low_byte(word);
     }
     lanes

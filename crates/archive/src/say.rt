@@ -5,24 +5,27 @@ ghost use Rattle.archive.specs.Texts.{Wrote, line, refusal_text};
 ghost use Rattle.archive.specs.Judging.{pair_lines, judged_text};
 
 use crate::judged::Judged;
-use crate::text::{put_finding, put_pair, put_refusal};
+use crate::text::Cursor;
 use ranking::finder::Finding;
 use record::refusal::Refusal;
 
 /// The bytes that a text is given: no text is longer.
 pub const TEXT_ROOM: usize = 512;
 
-// Writes a line for each stream at the front.
-fn put_pairs(out: &mut [u8], judged: &Judged) -> usize
-    requires there_is_room { 160 ≤ length out.old }
-    ensures takes_at_most { result ≤ 160 }
-    ensures wrote_the_lines { Wrote out.old 0 (pair_lines 0 (take judged.now.streams judged.now.lanes)) out.new result }
-{
-    let mut at = 0;
-    for stream in 0..judged.streams {
-        at = put_pair(out, at, stream, judged.lanes[stream as usize]);
+impl Cursor<'_> {
+    // Writes a line for each stream.
+    fn put_pairs(&mut self, judged: &Judged)
+        requires at_the_front { self.old.at ≡ 0 }
+        requires there_is_room { 160 ≤ length self.old.bytes.now }
+        ensures same_list { self.new.bytes.ghost_name ≡ self.old.bytes.ghost_name }
+        ensures takes_at_most { self.new.at ≤ 160 }
+        ensures wrote_the_lines { Wrote self.old.bytes.now 0 (pair_lines 0 (take judged.now.streams judged.now.lanes)) self.new.bytes.now self.new.at }
+    {
+        // By the number, which is printed: `enumerate` would count in another type, and cast back.
+        for stream in 0..judged.streams {
+            self.put_pair(stream, judged.lanes[stream as usize]);
+        }
     }
-    at
 }
 
 /// Writes the text of a judged record at the front of the caller's bytes, answers its length, and leaves the other bytes.
@@ -35,8 +38,10 @@ pub fn judged_text(judged: &Judged, text: &mut [u8]) -> Result<usize, Refusal>
     if text.len() < TEXT_ROOM {
         return Err(Refusal::Room(TEXT_ROOM as u16));
     }
-    let at = put_pairs(text, judged);
-    Ok(put_finding(text, at, judged.finding))
+    let mut cursor = Cursor { bytes: text, at: 0 };
+    cursor.put_pairs(judged);
+    cursor.put_finding(judged.finding);
+    Ok(cursor.at)
 }
 
 /// Writes the line of a refusal at the front of the caller's bytes, answers its length, and leaves the other bytes.
@@ -49,7 +54,9 @@ pub fn refusal_text(refusal: Refusal, text: &mut [u8]) -> Result<usize, Refusal>
     if text.len() < TEXT_ROOM {
         return Err(Refusal::Room(TEXT_ROOM as u16));
     }
-    Ok(put_refusal(text, 0, refusal))
+    let mut cursor = Cursor { bytes: text, at: 0 };
+    cursor.put_refusal(refusal);
+    Ok(cursor.at)
 }
 
 impl Judged {

@@ -3,5 +3,5 @@ use Rattle.record.specs.Faults.{pair_of}
 use Rattle.archive.specs.Pairs.{lane_of}
 use Rattle.archive.proofs.judge.lanes_of.Given as goal
 
-abbrev pub invariant-loop-k : goal.invariant-loop-k
-invariant-loop-k l = ((i : ℕ) → i < 16 → get_or l.lanes i 255 ≡ lane_of (map pair_of (take l.k l.pairs)) i) × (length l.lanes ≡ 16)
+abbrev pub invariant-loop-word : goal.invariant-loop-word
+invariant-loop-word l = ((i : ℕ) → i < 16 → get_or l.lanes i 255 ≡ lane_of (map pair_of (take l.word-index l.pairs)) i) × (length l.lanes ≡ 16)

@@ -1,12 +1,6 @@
-use Rattle.std.proofs.Common.{length, sym, ap, arith}
-use Rattle.std.proofs.lemmas.Bool.{le-ltb}
-use Rattle.record.specs.Refusals.{refuse_if}
+use Rattle.std.proofs.Common.{rules}
 use Rattle.archive.proofs.Writing.{wrote_front}
 use Rattle.archive.proofs.say.refusal_text.Goals as goal
 
-pub returns : goal.returns
-returns c = record {
-  refused_as_told = sym (ap (λ b. refuse_if b (9, 512)) (le-ltb (length c.args.text.now) 512 (omega arith)));
-  within_the_list = omega arith;
-  text_or_unchanged = wrote_front _ _ _ _ c.put_refusal.ensures.wrote_the_line;
-}
+pub returns-clause-text_or_unchanged : goal.returns-clause-text_or_unchanged
+returns-clause-text_or_unchanged c = search (rules, wrote_front)

@@ -13,19 +13,6 @@ loop-at-init g c =
     let e = c.kind-kind.ensures.is_the_kind in
     (going_start ws (kind_number c.kind-kind.result) c.args.from (subst (λ k. ReadTo ws (kind_number k) c.args.from) (sym e) c.requires.read_so_far), c.requires.seen_so_far, sym e)
 
-pub returns-then-ne : goal.returns-then-ne
-returns-then-ne g c =
-    let ws = c.args.words.now in
-    let k = c.kind-kind.result in
-    let other : c.of.result ≡ Some k → ⊥ = search rules in
-    let part = going_stops ws (kind_number k) c.args.from c.loop-at.at c.loop-at.invariant.0 (λ e. other ((c.of.ensures.is_the_kind k).1 e)) in
-    record { part_or_first_fault = subst (λ k. PartRead ws (kind_number k) c.args.from c.loop-at.at) c.kind-kind.ensures.is_the_kind part }
-
-pub word-requires : goal.word-requires
-word-requires g c =
-    let told : c.of.result ≡ Some c.kind-kind.result = search rules in
-    record { of_the_kind = (c.of.ensures.is_the_kind c.kind-kind.result).0 told ∙ ap kind_number (sym c.loop-at.invariant.2) }
-
 pub returns-in_err-word : goal.returns-in_err-word
 returns-in_err-word g c =
     let p = err_from_is_err_and c.from_residual.result c.from_residual.ensures.1 in
@@ -56,11 +43,3 @@ loop-at-preserved g c =
       subst (g.S.Scan.sees c.word.new.self) (sym (take_more ws at 0 (omega arith))) (ok.has_seen_one_more (take at ws) inv.1 refl),
       ok.same_kind ∙ inv.2,
     )
-
-pub returns : goal.returns
-returns g c =
-    let ws = c.args.words.now in
-    let k = c.kind-kind.result in
-    let e : c.loop-at.at ≡ length ws - 1 = omega (arith, c.requires.read_so_far.inside) in
-    let part = going_ends ws (kind_number k) c.args.from c.loop-at.at c.loop-at.invariant.0 (omega (arith, c.requires.read_so_far.inside)) in
-    record { part_or_first_fault = subst (λ k. PartRead ws (kind_number k) c.args.from (length ws - 1)) c.kind-kind.ensures.is_the_kind (subst (λ n. PartRead ws (kind_number k) c.args.from n) e part) }

@@ -1,4 +1,4 @@
-use Rattle.archive.proofs.text.+put_number.Given as goal
+use Rattle.archive.proofs.text.Cursor.+put_number.Given as goal
 
 abbrev pub decreases-put_number : goal.decreases-put_number
 decreases-put_number l = l.number
