@@ -36,7 +36,7 @@ pub fn judge(words: &[u32]) -> Result<Judged, Refusal>
     let parts = listing.fill(words)?;
     let streams = parts.sizes.streams;
     let lanes = lanes_of(parts.pairs.words);
-    let finding = find(&listing, &lanes[0..streams as usize])?;
+    let finding = find(&listing, &lanes[..streams as usize])?;
     Ok(Judged {
         streams,
         lanes,

@@ -19,8 +19,7 @@ fn main(rt: HostRuntime) -> io::Result<ExitCode> {
     let mut text = [0u8; TEXT_ROOM];
     match tell(&bytes, &mut text) {
         Ok(ended) => {
-            let length = ended.length;
-            rt.stdout().write_all(&text[0..length])?;
+            rt.stdout().write_all(&text[..ended.length])?;
             if ended.well {
                 Ok(ExitCode::SUCCESS)
             } else {

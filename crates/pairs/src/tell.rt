@@ -26,18 +26,14 @@ fn judge_bytes(bytes: &[u8]) -> Result<Judged, Refusal>
 {
     let mut words = [0u32; MOST_WORDS];
     let count = words_of(bytes, &mut words)?;
-    judge(&words[0..count])
+    judge(&words[..count])
 }
 
 // Whether the finder answered stable.
 fn is_stable(finding: Finding) -> bool
     ensures is_the_answer { result ≡ is_stable finding }
 {
-    match finding {
-        Finding::Stable => true,
-        Finding::Unranked(_) => false,
-        Finding::Blocked(_, _) => false,
-    }
+    finding == Finding::Stable
 }
 
 /// Writes what is told of the input's bytes at the front of the text.

@@ -33,12 +33,10 @@ not_refused c law x bytes ex eb =
     ∙ fault_from_lawful (market_of (content_meaning c)) (pairing_of c) (pairing_lawful c (market_of (content_meaning c)) law refl refl)
 
 -- the table of lanes, cut to the streams
-cut : (c : Content) → Lawful c → (ws lanes : List ℕ) (n : ℕ) → n ≡ c.streams → ws ≡ map pair_word c.pairs → length lanes ≡ 16 → ((i : ℕ) → i < 16 → get_or lanes i 255 ≡ lane_of (map pair_of ws) i) → take (n - 0) lanes ≡ pairing_of c
+cut : (c : Content) → Lawful c → (ws lanes : List ℕ) (n : ℕ) → n ≡ c.streams → ws ≡ map pair_word c.pairs → length lanes ≡ 16 → ((i : ℕ) → i < 16 → get_or lanes i 255 ≡ lane_of (map pair_of ws) i) → take n lanes ≡ pairing_of c
 cut c law ws lanes n e words size known =
-    let z : n - 0 ≡ n = omega arith in
     let s = law.few_streams in
-    ap (λ k. take k lanes) z
-    ∙ pairing_cut c lanes n e (omega arith) size (λ i h. known i h ∙ ap (λ l. lane_of l i) (ap (map pair_of) words ∙ pair_values c.pairs (pair_bytes c law)))
+    pairing_cut c lanes n e (omega arith) size (λ i h. known i h ∙ ap (λ l. lane_of l i) (ap (map pair_of) words ∙ pair_values c.pairs (pair_bytes c law)))
 
 never : (code : ℕ × ℕ) → Some code ≡ None → ⊥
 never code e = grind arith
@@ -58,8 +56,7 @@ returns c =
     let lanes = c.lanes_of-lanes.result in
     let n = c.in_ok-parts.parts.sizes.streams in
     let bytes = cut content law c.in_ok-parts.parts.pairs.words.now lanes n told.1.0.1.streams told.1.0.1.pair_words c.lanes_of-lanes.ensures.is_whole c.lanes_of-lanes.ensures.has_every_pair in
-    let whole : take n lanes ≡ take (n - 0) lanes = let z : n ≡ n - 0 = omega arith in ap (λ k. take k lanes) z in
-    let found = subst (λ x. Found (market_of x) (holding_of (market_of x) (take (n - 0) lanes)) c.in_ok-finding.finding) told.1.1 c.in_ok-finding.ensures.found_as_told in
+    let found = subst (λ x. Found (market_of x) (holding_of (market_of x) (take n lanes)) c.in_ok-finding.finding) told.1.1 c.in_ok-finding.ensures.found_as_told in
     record {
       refused_as_told = sym (record_faultless c.args.words.now content told.1.0.0);
       judged_by_the_content = (
@@ -68,7 +65,7 @@ returns c =
           told.1.0.0,
           record {
             streams = told.1.0.1.streams;
-            pairing = whole ∙ bytes;
+            pairing = bytes;
             finding = subst (λ l. Found (market_of (content_meaning content)) (holding_of (market_of (content_meaning content)) l) c.in_ok-finding.finding) bytes found;
           },
         ),

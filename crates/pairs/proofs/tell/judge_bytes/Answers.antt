@@ -9,10 +9,7 @@ use Rattle.pairs.proofs.tell.judge_bytes.Goals as goal
 pub returns : goal.returns
 returns c =
     let bytes = c.args.bytes.now in
-    let n = c.in_ok-count.count in
-    let words = c.words_of.new.words in
-    let z : n - 0 ≡ n = omega arith in
-    let read : take (n - 0) words ≡ words_of bytes = ap (λ k. take k words) z ∙ c.in_ok-count.ensures.words_or_unchanged.front in
+    let read = c.in_ok-count.ensures.words_or_unchanged.front in
     record {
       refused_as_told =
           c.judge.ensures.refused_as_told
