@@ -25,22 +25,21 @@ const SQUARE: [u32; 12] = [
     0x5000_000b,
 ];
 
-const PAIRINGS: [[u8; 2]; 5] = [[0, 1], [1, 0], [0, 255], [255, 255], [255, 0]];
-
-const FINDINGS: [Finding; 5] = [
-    Finding::Stable,
-    Finding::Stable,
-    Finding::Blocked(1, 0),
-    Finding::Blocked(0, 0),
-    Finding::Blocked(0, 1),
+// Pairings of the square board, and what the finder answers of each.
+const FINDINGS: [([u8; 2], Finding); 5] = [
+    ([0, 1], Finding::Stable),
+    ([1, 0], Finding::Stable),
+    ([0, 255], Finding::Blocked(1, 0)),
+    ([255, 255], Finding::Blocked(0, 0)),
+    ([255, 0], Finding::Blocked(0, 1)),
 ];
 
 #[test]
 fn finder_on_the_square_board(rt: HostRuntime) -> Result<(), Fail> {
     let mut listing = Listing::new();
     listing.fill(&SQUARE)?;
-    for k in 0..5 {
-        assert!(rt; find(&listing, &PAIRINGS[k]) == Ok(FINDINGS[k]));
+    for (pairing, finding) in FINDINGS {
+        assert!(rt; find(&listing, &pairing) == Ok(finding));
     }
     assert!(rt; find(&listing, &[0]) == Err(Refusal::Pairing(255)));
     assert!(rt; find(&listing, &[0, 1, 255]) == Err(Refusal::Pairing(255)));
@@ -116,8 +115,8 @@ fn scoring_ranks_by_distance(rt: HostRuntime) {
     assert!(rt; scoring.rank_by_stream(0, 0) == None);
     let lanes = [lane_of(489), lane_of(510), lane_of(500), lane_of(490)];
     assert!(rt; scoring.fill(&[STREAM], &lanes) == Ok(()));
-    for lane in 0..5u8 {
-        assert!(rt; scoring.rank_by_stream(0, lane).unwrap_or(9) == SCORES[lane as usize]);
+    for (lane, score) in (0..5u8).zip(SCORES) {
+        assert!(rt; scoring.rank_by_stream(0, lane).unwrap_or(9) == score);
     }
     assert!(rt; scoring.rank_by_lane(3, 0) == Some(0) && scoring.rank_by_lane(0, 1) == None);
     assert!(rt; scoring.fill(&[STREAM], &lanes) == Err(Refusal::Filled) && scoring.lanes() == 4);

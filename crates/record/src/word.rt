@@ -45,21 +45,21 @@ pub fn kind_of(word: u32) -> u32
 pub fn high_byte(word: u32) -> u8
     ensures is_the_high_byte { result ≡ high word }
 {
-    ((word >> 16) % 256) as u8
+    word.to_be_bytes()[1]
 }
 
 /// Bits 15 to 8: a head's streams, a choice's place, a pair's stream.
 pub fn middle_byte(word: u32) -> u8
     ensures is_the_middle_byte { result ≡ middle word }
 {
-    ((word >> 8) % 256) as u8
+    word.to_be_bytes()[2]
 }
 
 /// Bits 7 to 0: a head's lanes, a choice's ranked party, a turn's party, a pair's lane.
 pub fn low_byte(word: u32) -> u8
     ensures is_the_low_byte { result ≡ low word }
 {
-    (word % 256) as u8
+    word.to_be_bytes()[3]
 }
 
 /// Bits 27 to 0: an end's number.
