@@ -3,5 +3,5 @@ pub mod Holdings
 pub mod Markets
 pub mod Blocking
 pub mod Findings
-pub mod Tables
 pub mod Scores
+pub mod Tables

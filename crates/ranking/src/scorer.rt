@@ -127,11 +127,11 @@ impl Ranking for Scoring {
     ghost strict = { Prim.search rules };
 
     fn streams(&self) -> u8 {
-        self.sides.map_or(1, |sides| sides.streams.count)
+        self.sides.as_ref().map_or(1, |sides| sides.streams.count)
     }
 
     fn lanes(&self) -> u8 {
-        self.sides.map_or(1, |sides| sides.lanes.count)
+        self.sides.as_ref().map_or(1, |sides| sides.lanes.count)
     }
 
     fn rank_by_stream(&self, stream: u8, lane: u8) -> Option<u16> {
