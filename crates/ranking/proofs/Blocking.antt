@@ -1,9 +1,9 @@
 -- Which pairs can block, and when a holding is stable.
-use Rattle.std.proofs.Common.{◌≡◌, ℕ, ◌+◌, ◌-◌, ◌<◌, ◌≤◌, Bool, true, false, not, ◌&&◌, eqb, ltb, ◌⊎◌, List, get_or, is_some, Some, None, Option, sym, refl, ap, ◌∙◌, inl, inr, ⊎_elim, arith}
+use Rattle.std.proofs.Common.{◌≡◌, ℕ, ◌+◌, ◌-◌, ◌<◌, ◌≤◌, Bool, true, false, not, ◌&&◌, ltb, ◌⊎◌, List, get_or, is_some, Some, None, Option, sym, refl, ap, ◌∙◌, inl, inr, ⊎_elim, arith}
 use Rattle.std.proofs.lemmas.Bool.{lt-ltb, le-ltb, eqb-true, cond-true, cond-false, cases_lt, cases_Bool, both_ways, and_parts}
 use Rattle.record.proofs.Lists.{place_at_lem}
 use Rattle.ranking.specs.Market.{Market, Meaning, market_of, prefers, Sized, Bounded, BoundedRanks, StreamAndLane, LawfulMarket}
-use Rattle.ranking.specs.Pairings.{LawfulPairing, lane_party, holding_of, stream_named, TableOf}
+use Rattle.ranking.specs.Pairings.{LawfulPairing, lane_party, holding_of, TableOf}
 use Rattle.ranking.specs.Stability.{rank_of, held_rank, wants, is_party, holds, blocks, ranks_both, held_ranked, Stable, RankedBelow, UnblockedBelow, UnblockedBefore}
 use Rattle.ranking.proofs.Holdings.{holding_stream, holding_lane, holding_tells, holding_mutual}
 use Rattle.ranking.proofs.Markets.{rank_stream, rank_lane}
@@ -100,22 +100,17 @@ module _ (x : Meaning) (bytes : List ℕ) where
           ∙ sym (no_rank x.streams x.lanes x.by_stream i (get_or bytes i 0) b.0 l)
 
   -- the rank that a lane gives the stream that the table names for it
-  pub lane_held : (table : List ℕ) (j : ℕ) → Sized x → BoundedRanks x → LawfulPairing (market_of x) bytes → TableOf bytes table → j < x.lanes → held_rank (market_of x) (holding_of (market_of x) bytes) (x.streams + j) ≡ x.by_lane j (get_or table j 0)
-  lane_held table j z b p t h = ap (rank_of ((market_of x).rank (x.streams + j))) (holding_lane (market_of x) bytes j h ∙ sym (t.each j (omega arith))) ∙ ⊎_elim nobody named (cases_Bool (eqb (get_or table j 0) 255))
+  pub lane_held : (table : List (Option ℕ)) (j : ℕ) → Sized x → LawfulPairing (market_of x) bytes → TableOf bytes table → j < x.lanes → held_rank (market_of x) (holding_of (market_of x) bytes) (x.streams + j) ≡ rank_of (x.by_lane j) (get_or table j None)
+  lane_held table j z p t h = ap (rank_of ((market_of x).rank (x.streams + j))) (holding_lane (market_of x) bytes j h ∙ sym (t.1 j (omega arith))) ∙ go (get_or table j None) refl
     where
-      nobody : eqb (get_or table j 0) 255 ≡ true → rank_of ((market_of x).rank (x.streams + j)) (stream_named (get_or table j 0)) ≡ x.by_lane j (get_or table j 0)
-      nobody e =
-          ap (rank_of ((market_of x).rank (x.streams + j))) (cond-true (eqb (get_or table j 0) 255) _ _ e)
-          ∙ sym (no_rank x.lanes x.streams x.by_lane j (get_or table j 0) b.1 (omega (arith, eqb-true (get_or table j 0) 255 e)))
-
-      named : eqb (get_or table j 0) 255 ≡ false → rank_of ((market_of x).rank (x.streams + j)) (stream_named (get_or table j 0)) ≡ x.by_lane j (get_or table j 0)
-      named e =
-          let n : stream_named (get_or table j 0) ≡ Some (get_or table j 0) = cond-false (eqb (get_or table j 0) 255) _ _ e in
-          let at = place_at_lem j bytes (get_or table j 0) (sym (t.each j (omega arith)) ∙ n) in
-          ap (rank_of ((market_of x).rank (x.streams + j))) n ∙ rank_lane x j (get_or table j 0) (omega (arith, at.0, p.count))
+      go : (o : Option ℕ) → get_or table j None ≡ o → rank_of ((market_of x).rank (x.streams + j)) o ≡ rank_of (x.by_lane j) o
+      go None e = refl
+      go (Some k) e =
+          let at = place_at_lem j bytes k (sym (t.1 j (omega arith)) ∙ e) in
+          rank_lane x j k (omega (arith, at.0, p.count))
 
   -- when a stream and a lane block, by the tables
-  pub pair_blocks : (table : List ℕ) (i j : ℕ) → Sized x → BoundedRanks x → LawfulPairing (market_of x) bytes → TableOf bytes table → i < x.streams → j < x.lanes → blocks (market_of x) (holding_of (market_of x) bytes) i (x.streams + j) ≡ (prefers (x.by_stream i j) (x.by_stream i (get_or bytes i 0)) && prefers (x.by_lane j i) (x.by_lane j (get_or table j 0)))
+  pub pair_blocks : (table : List (Option ℕ)) (i j : ℕ) → Sized x → BoundedRanks x → LawfulPairing (market_of x) bytes → TableOf bytes table → i < x.streams → j < x.lanes → blocks (market_of x) (holding_of (market_of x) bytes) i (x.streams + j) ≡ (prefers (x.by_stream i j) (x.by_stream i (get_or bytes i 0)) && prefers (x.by_lane j i) (rank_of (x.by_lane j) (get_or table j None)))
   pair_blocks table i j z b p t h l =
       let m = market_of x in
       let held = holding_of m bytes in
@@ -124,13 +119,13 @@ module _ (x : Meaning) (bytes : List ℕ) where
       ∙ ap (λ o. prefers o (held_rank m held i) && wants m held q i) (rank_stream x i j h)
       ∙ ap (λ o. prefers (x.by_stream i j) o && wants m held q i) (stream_held i b h)
       ∙ ap (λ o. prefers (x.by_stream i j) (x.by_stream i (get_or bytes i 0)) && prefers o (held_rank m held q)) (rank_lane x j i h)
-      ∙ ap (λ o. prefers (x.by_stream i j) (x.by_stream i (get_or bytes i 0)) && prefers (x.by_lane j i) o) (lane_held table j z b p t l)
+      ∙ ap (λ o. prefers (x.by_stream i j) (x.by_stream i (get_or bytes i 0)) && prefers (x.by_lane j i) o) (lane_held table j z p t l)
 
   -- the same of a test that compared these ranks, with the stream's own rank read before
-  pub pair_tested : (table : List ℕ) (i j : ℕ) (held : Option ℕ) (test : Bool) → Sized x → BoundedRanks x → LawfulPairing (market_of x) bytes → TableOf bytes table → i < x.streams → j < x.lanes → held ≡ x.by_stream i (get_or bytes i 0) → test ≡ (prefers (x.by_stream i j) held && prefers (x.by_lane j i) (x.by_lane j (get_or table j 0))) → blocks (market_of x) (holding_of (market_of x) bytes) i (x.streams + j) ≡ test
+  pub pair_tested : (table : List (Option ℕ)) (i j : ℕ) (held : Option ℕ) (test : Bool) → Sized x → BoundedRanks x → LawfulPairing (market_of x) bytes → TableOf bytes table → i < x.streams → j < x.lanes → held ≡ x.by_stream i (get_or bytes i 0) → test ≡ (prefers (x.by_stream i j) held && prefers (x.by_lane j i) (rank_of (x.by_lane j) (get_or table j None))) → blocks (market_of x) (holding_of (market_of x) bytes) i (x.streams + j) ≡ test
   pair_tested table i j held test z b p t h l read is =
       pair_blocks table i j z b p t h l
-      ∙ ap (λ o. prefers (x.by_stream i j) o && prefers (x.by_lane j i) (x.by_lane j (get_or table j 0))) (sym read)
+      ∙ ap (λ o. prefers (x.by_stream i j) o && prefers (x.by_lane j i) (rank_of (x.by_lane j) (get_or table j None))) (sym read)
       ∙ sym is
 
   -- whether a stream and the lane that it holds rank each other, by a test of the tables

@@ -1,12 +1,12 @@
 -- What a pairing that is not refused keeps, and the table of the lanes' streams.
-use Rattle.std.proofs.Common.{◌≡◌, ℕ, ◌+◌, ◌<◌, ◌≤◌, Bool, true, false, cond, not, eqb, ltb, ◌⊎◌, List, [], ◌∷◌, ◌++◌, length, get_or, take, set, is_some, Some, None, Option, sym, refl, ap, ◌∙◌, inl, inr, arith}
+use Rattle.std.proofs.Common.{◌≡◌, ℕ, ◌+◌, ◌<◌, ◌≤◌, Bool, true, false, not, eqb, ltb, ◌⊎◌, List, [], ◌∷◌, ◌++◌, length, get_or, take, set, is_some, Some, None, Option, sym, refl, ap, ◌∙◌, inl, inr, arith}
 use Rattle.std.proofs.lemmas.List.{take_more, get_or-take, length-take-le, length-set, get_or-set_same, get_or-set_other}
 use Rattle.std.proofs.lemmas.Bool.{eq-eqb, ne_eqb, eqb-true, lt-ltb, le-ltb, cond-true, cond-false, cases_eq, cases_lt, cases_order, both_ways, not-false}
 use Rattle.record.specs.Refusals.{or_else, refuse_if}
 use Rattle.record.specs.Lists.{among, place_in, earliest}
 use Rattle.record.proofs.Lists.{among_place, among_from, place_at_lem, place_push_other, place_push_new, earliest_more, earliest_found, earliest_none, none_earliest}
 use Rattle.ranking.specs.Market.{Market}
-use Rattle.ranking.specs.Pairings.{wrong_at, stream_fault, pairing_fault, LawfulPairing, stream_named, TableOf}
+use Rattle.ranking.specs.Pairings.{wrong_at, stream_fault, pairing_fault, LawfulPairing, TableOf}
 
 -- a byte that is right refuses nothing, and one that is wrong refuses
 pub no_stream_fault : (m : Market) (bytes : List ℕ) (i : ℕ) → wrong_at m bytes i ≡ false → stream_fault m bytes i ≡ None
@@ -23,36 +23,20 @@ pub wrong_none : (m : Market) (bytes : List ℕ) (i : ℕ) → m.lanes ≤ get_o
 wrong_none m bytes i h = cond-false (ltb (get_or bytes i 0) m.lanes) _ _ (le-ltb (get_or bytes i 0) m.lanes h)
 
 -- a lane is among the bytes where its place in the table names a stream
-pub table_among : (bytes table : List ℕ) (j : ℕ) → TableOf bytes table → j < 16 → among j bytes ≡ not (eqb (get_or table j 0) 255)
-table_among bytes table j t h = among_place j bytes ∙ ap is_some (sym (t.each j h)) ∙ go (eqb (get_or table j 0) 255)
-  where
-    go : (b : Bool) → is_some (cond b None (Some (get_or table j 0))) ≡ not b
-    go true = refl
-    go false = refl
+pub table_among : (bytes : List ℕ) (table : List (Option ℕ)) (j : ℕ) → TableOf bytes table → j < 16 → among j bytes ≡ is_some (get_or table j None)
+table_among bytes table j t h = among_place j bytes ∙ ap is_some (sym (t.1 j h))
 
 -- one more stream, whose byte names a lane that nobody had
-pub table_push : (xs table : List ℕ) (lane : ℕ) → TableOf xs table → lane < 16 → length xs < 255 → get_or table lane 0 ≡ 255 → TableOf (xs ++ lane ∷ []) (set table lane (length xs))
-table_push xs table lane t h l free = record { count = length-set table lane (length xs) ∙ t.count; each = λ j b. go j b (cases_eq j lane) }
+pub table_push : (xs : List ℕ) (table : List (Option ℕ)) (lane : ℕ) → TableOf xs table → lane < 16 → get_or table lane None ≡ None → TableOf (xs ++ lane ∷ []) (set table lane (Some (length xs)))
+table_push xs table lane t h free = (length-set table lane (Some (length xs)) ∙ t.0, λ j b. go j b (cases_eq j lane))
   where
-    empty : place_in lane xs ≡ None
-    empty = sym (t.each lane h) ∙ ap stream_named free
-
-    at_lane : stream_named (get_or (set table lane (length xs)) lane 0) ≡ place_in lane (xs ++ lane ∷ [])
-    at_lane =
-        let b : lane < length table = rw t.count h in
-        let n : length xs ≡ 255 → ⊥ = λ e. omega arith in
-        ap stream_named (get_or-set_same table lane (length xs) 0 b)
-        ∙ cond-false (eqb (length xs) 255) None (Some (length xs)) (ne_eqb (length xs) 255 n)
-        ∙ sym (place_push_new lane xs empty)
-
-    go : (j : ℕ) → j < 16 → (j ≡ lane) ⊎ (j ≡ lane → ⊥) → stream_named (get_or (set table lane (length xs)) j 0) ≡ place_in j (xs ++ lane ∷ [])
-    go j b (inl e) = rw e at_lane
-    go j b (inr n) = ap stream_named (get_or-set_other table lane j (length xs) 0 n) ∙ t.each j b ∙ sym (place_push_other j lane xs (ne_eqb j lane n))
+    go : (j : ℕ) → j < 16 → (j ≡ lane) ⊎ (j ≡ lane → ⊥) → get_or (set table lane (Some (length xs))) j None ≡ place_in j (xs ++ lane ∷ [])
+    go j b (inl e) = rw e (get_or-set_same table lane (Some (length xs)) None (omega (arith, t.0)) ∙ sym (place_push_new lane xs (sym (t.1 lane h) ∙ free)))
+    go j b (inr n) = get_or-set_other table lane j (Some (length xs)) None n ∙ t.1 j b ∙ sym (place_push_other j lane xs (ne_eqb j lane n))
 
 -- one more stream, whose byte names no lane
-pub table_skip : (xs table : List ℕ) (byte : ℕ) → TableOf xs table → 16 ≤ byte → TableOf (xs ++ byte ∷ []) table
-table_skip xs table byte t h =
-    record { count = t.count; each = λ j b. t.each j b ∙ sym (place_push_other j byte xs (ne_eqb j byte (λ e. omega arith))) }
+pub table_skip : (xs : List ℕ) (table : List (Option ℕ)) (byte : ℕ) → TableOf xs table → 16 ≤ byte → TableOf (xs ++ byte ∷ []) table
+table_skip xs table byte t h = (t.0, λ j b. t.1 j b ∙ sym (place_push_other j byte xs (ne_eqb j byte (λ e. omega arith))))
 
 -- the pairing is refused at the first stream whose byte is wrong
 pub fault_at_lem : (m : Market) (bytes : List ℕ) (i : ℕ) → length bytes ≡ m.streams → i < m.streams → earliest (stream_fault m bytes) i ≡ None → wrong_at m bytes i ≡ true → pairing_fault m bytes ≡ Some (8, i)
@@ -66,21 +50,20 @@ fault_none m bytes n e =
     ap (λ b. or_else (refuse_if (not b) (8, 255)) (earliest (stream_fault m bytes) m.streams)) (eq-eqb (length bytes) m.streams n) ∙ e
 
 -- what is known once the streams below i are read
-abbrev pub ReadTo : (m : Market) (bytes : List ℕ) (i : ℕ) (table : List ℕ) → Type 0
+abbrev pub ReadTo : (m : Market) (bytes : List ℕ) (i : ℕ) (table : List (Option ℕ)) → Type 0
 ReadTo m bytes i table = (earliest (stream_fault m bytes) i ≡ None) × TableOf (take i bytes) table
 
-pub read_lane : (m : Market) (bytes : List ℕ) (i : ℕ) (table : List ℕ) → m.lanes ≤ 16 → i < length bytes → i < 255 → get_or bytes i 0 < m.lanes → get_or table (get_or bytes i 0) 0 ≡ 255 → ReadTo m bytes i table → ReadTo m bytes (i + 1) (set table (get_or bytes i 0) i)
-read_lane m bytes i table l h k b free r =
+pub read_lane : (m : Market) (bytes : List ℕ) (i : ℕ) (table : List (Option ℕ)) → m.lanes ≤ 16 → i < length bytes → get_or bytes i 0 < m.lanes → get_or table (get_or bytes i 0) None ≡ None → ReadTo m bytes i table → ReadTo m bytes (i + 1) (set table (get_or bytes i 0) (Some i))
+read_lane m bytes i table l h b free r =
     let lane = get_or bytes i 0 in
     let n : length (take i bytes) ≡ i = length-take-le i bytes (omega arith) in
-    let a : among lane (take i bytes) ≡ false = table_among (take i bytes) table lane r.1 (omega arith) ∙ ap not (eq-eqb (get_or table lane 0) 255 free) in
-    let t = table_push (take i bytes) table lane r.1 (omega arith) (omega arith) free in
-    let u : TableOf (take i bytes ++ lane ∷ []) (set table lane i) = rw n at t in (
+    let a : among lane (take i bytes) ≡ false = table_among (take i bytes) table lane r.1 (omega arith) ∙ ap is_some free in
+    let u : TableOf (take i bytes ++ lane ∷ []) (set table lane (Some i)) = rw n at (table_push (take i bytes) table lane r.1 (omega arith) free) in (
       earliest_more (stream_fault m bytes) i r.0 ∙ no_stream_fault m bytes i (wrong_lane m bytes i b ∙ a),
       rw (take_more bytes i 0 h) u,
     )
 
-pub read_nobody : (m : Market) (bytes : List ℕ) (i : ℕ) (table : List ℕ) → m.lanes ≤ 16 → i < length bytes → get_or bytes i 0 ≡ 255 → ReadTo m bytes i table → ReadTo m bytes (i + 1) table
+pub read_nobody : (m : Market) (bytes : List ℕ) (i : ℕ) (table : List (Option ℕ)) → m.lanes ≤ 16 → i < length bytes → get_or bytes i 0 ≡ 255 → ReadTo m bytes i table → ReadTo m bytes (i + 1) table
 read_nobody m bytes i table l h e r = (
   earliest_more (stream_fault m bytes) i r.0 ∙ no_stream_fault m bytes i (wrong_none m bytes i (omega arith) ∙ ap not (eq-eqb (get_or bytes i 0) 255 e)),
   rw (take_more bytes i 0 h) (table_skip (take i bytes) table (get_or bytes i 0) r.1 (omega arith)),
