@@ -5,7 +5,7 @@ ghost use Rattle.ranking.specs.Pairings.{pairing_fault, holding_of};
 ghost use Rattle.ranking.specs.Stability.{rank_of, Stable, RankedBelow, UnblockedBelow, FirstUnranked, FirstBlocking, Found};
 
 use crate::interface::Ranking;
-use crate::pairing::Paired;
+use crate::pairing::CheckedPairing;
 use record::refusal::Refusal;
 
 /// What the finder answers of a pairing.
@@ -51,7 +51,7 @@ fn want_each_other<R: Ranking>(
         )
 }
 
-impl<R: Ranking> Paired<'_, R> {
+impl<R: Ranking> CheckedPairing<'_, R> {
     // The lowest stream that holds a lane where one of the two does not rank the other.
     fn first_unranked(&self) -> Option<u8>
         ensures is_the_first_unranked { let m = market_of (R.meaning self.now.ranking.now) in let h = holding_of m self.now.pairing.now in MatchOption result (RankedBelow m h m.streams) (FirstUnranked m h) }
@@ -96,7 +96,7 @@ pub fn find<R: Ranking>(ranking: &R, pairing: &[u8]) -> Result<Finding, Refusal>
     ensures found_as_told { let m = market_of (R.meaning ranking.now) in IfOk result (Found m (holding_of m pairing.now)) }
     ensures stable_exactly_when { let m = market_of (R.meaning ranking.now) in (result ≡ Ok Finding.Stable ↔ (pairing_fault m pairing.now ≡ None) × Stable m (holding_of m pairing.now)) }
 {
-    let paired = Paired::new(ranking, pairing)?;
+    let paired = CheckedPairing::new(ranking, pairing)?;
     if let Some(stream) = paired.first_unranked() {
         return Ok(Finding::Unranked(stream));
     }

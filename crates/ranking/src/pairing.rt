@@ -17,18 +17,18 @@ const WHOLE_LIST: u8 = 255;
 pub const MOST_LANES: usize = 16;
 
 // A ranking with a pairing of its streams and lanes that is not refused, and the stream of each lane.
-pub(crate) struct Paired<'a, R: Ranking> {
+pub(crate) struct CheckedPairing<'a, R: Ranking> {
     pub(crate) ranking: &'a R,
     pub(crate) pairing: &'a [u8],
     pub(crate) lane_streams: [Option<u8>; MOST_LANES],
     ghost not_refused: { pairing_fault (market_of (R.meaning ranking.now)) pairing.now ≡ None } by { Prim.hlevel props },
-    ghost table_as_told: { TableOf pairing.now lane_streams } by { Prim.hlevel props },
+    ghost table_as_told: { TableOf pairing.now lane_streams },
 }
 
 // By hand: a derive would ask that the ranking, which is only lent, may be dropped.
-impl<R: Ranking> Drop for Paired<'_, R> {
+impl<R: Ranking> Drop for CheckedPairing<'_, R> {
     fn drop(self) {
-        let Paired {
+        let CheckedPairing {
             ranking: _,
             pairing: _,
             lane_streams: _,
@@ -36,9 +36,9 @@ impl<R: Ranking> Drop for Paired<'_, R> {
     }
 }
 
-impl<'a, R: Ranking> Paired<'a, R> {
+impl<'a, R: Ranking> CheckedPairing<'a, R> {
     // Refuses 8 where the list is no pairing of the ranking's streams and lanes.
-    pub(crate) fn new(ranking: &'a R, pairing: &'a [u8]) -> Result<Paired<'a, R>, Refusal>
+    pub(crate) fn new(ranking: &'a R, pairing: &'a [u8]) -> Result<CheckedPairing<'a, R>, Refusal>
         ensures refused_as_told { refused_by result ≡ pairing_fault (market_of (R.meaning ranking.now)) pairing.now }
         ensures as_given { IfOk result (λ p. (p.ranking.now ≡ ranking.now) × (p.pairing.now ≡ pairing.now)) }
     {
@@ -59,7 +59,7 @@ impl<'a, R: Ranking> Paired<'a, R> {
                 return Err(Refusal::Pairing(stream));
             }
         }
-        Ok(Paired {
+        Ok(CheckedPairing {
             ranking,
             pairing,
             lane_streams,
@@ -71,6 +71,6 @@ impl<'a, R: Ranking> Paired<'a, R> {
 pub fn check_pairing<R: Ranking>(ranking: &R, pairing: &[u8]) -> Result<(), Refusal>
     ensures refused_as_told { refused_by result ≡ pairing_fault (market_of (R.meaning ranking.now)) pairing.now }
 {
-    Paired::new(ranking, pairing)?;
+    CheckedPairing::new(ranking, pairing)?;
     Ok(())
 }

@@ -3,8 +3,8 @@ use Rattle.std.proofs.lemmas.Bool.{ne_eqb}
 use Rattle.ranking.specs.Market.{market_of}
 use Rattle.ranking.specs.Pairings.{wrong_at}
 use Rattle.ranking.proofs.Pairings.{wrong_lane, wrong_none, table_among, fault_at_lem, ReadTo, read_lane, read_nobody}
-use Rattle.ranking.proofs.pairing.Paired.new.Goals as goal
-use Rattle.ranking.proofs.pairing.Paired.new.Goals.{then-lane-lanes+else-is_some, else-lane-lanes+else-lane}
+use Rattle.ranking.proofs.pairing.CheckedPairing.new.Goals as goal
+use Rattle.ranking.proofs.pairing.CheckedPairing.new.Goals.{then-lane-lanes+else-is_some, else-lane-lanes+else-lane}
 
 pub returns-then-is_some-clause-refused_as_told : goal.returns-then-is_some-clause-refused_as_told
 returns-then-is_some-clause-refused_as_told g c =

@@ -3,7 +3,7 @@ use Rattle.ranking.specs.Market.{market_of}
 use Rattle.ranking.specs.Pairings.{holding_of}
 use Rattle.ranking.proofs.Pairings.{lawful_from_fault}
 use Rattle.ranking.proofs.Blocking.{pair_tested, unblocked_more}
-use Rattle.ranking.proofs.pairing.Paired.first_blocking.Goals as goal
+use Rattle.ranking.proofs.pairing.CheckedPairing.first_blocking.Goals as goal
 
 pub loop-lane-preserved : goal.loop-lane-preserved
 loop-lane-preserved g c =

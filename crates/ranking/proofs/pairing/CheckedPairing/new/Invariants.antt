@@ -1,6 +1,6 @@
 use Rattle.ranking.specs.Market.{market_of}
 use Rattle.ranking.proofs.Pairings.{ReadTo}
-use Rattle.ranking.proofs.pairing.Paired.new.Given as goal
+use Rattle.ranking.proofs.pairing.CheckedPairing.new.Given as goal
 
 -- no stream so far is refused, and the table is right for those so far
 abbrev pub invariant-loop-index : goal.invariant-loop-index

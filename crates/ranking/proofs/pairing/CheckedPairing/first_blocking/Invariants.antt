@@ -2,7 +2,7 @@ use Rattle.std.proofs.Common.{◌≡◌, None}
 use Rattle.ranking.specs.Market.{market_of}
 use Rattle.ranking.specs.Pairings.{holding_of}
 use Rattle.ranking.specs.Stability.{UnblockedBelow, UnblockedBefore}
-use Rattle.ranking.proofs.pairing.Paired.first_blocking.Given as goal
+use Rattle.ranking.proofs.pairing.CheckedPairing.first_blocking.Given as goal
 
 -- no lane so far blocks with the stream
 abbrev pub invariant-loop-lane : goal.invariant-loop-lane
