@@ -6,8 +6,8 @@ use Rattle.record.specs.Format.{Content}
 use Rattle.record.specs.Faults.{record_fault}
 use Rattle.ranking.specs.Market.{Meaning}
 use Rattle.ranking.specs.Places.{place_at}
-use Rattle.ranking.specs.declared.table.PlaceTable.{PlaceTable}
-use Rattle.ranking.specs.declared.table.Listing.{Listing}
+use Rattle.ranking.specs.declared.listing.PlaceTable.{PlaceTable}
+use Rattle.ranking.specs.declared.listing.Listing.{Listing}
 
 -- what a table of places means, given the sizes: streams have the first rows, and lane j has row s + j
 abbrev pub table_meaning : (streams lanes : ℕ) → List (List (Option ℕ)) → Meaning

@@ -4,9 +4,9 @@ use Rattle.ranking.specs.Market.{Meaning}
 use Rattle.ranking.specs.Listings.{unlisted}
 use Rattle.ranking.specs.Figures.{figured_at, scored_meaning}
 use Rattle.ranking.specs.declared.figures.PartyFigures.{PartyFigures}
-use Rattle.ranking.specs.declared.side.Side.{Side}
-use Rattle.ranking.specs.declared.side.Sides.{Sides}
-use Rattle.ranking.specs.declared.side.Scoring.{Scoring}
+use Rattle.ranking.specs.declared.scorer.Side.{Side}
+use Rattle.ranking.specs.declared.scorer.Sides.{Sides}
+use Rattle.ranking.specs.declared.scorer.Scoring.{Scoring}
 
 -- a side has the figures of a list
 pub record SideOf (side : Side) (xs : List PartyFigures) : Type 0 where

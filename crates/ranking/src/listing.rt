@@ -1,16 +1,30 @@
-ghost use Rattle.std.specs.Prelude.{◌≡◌, ℕ, ◌+◌, ◌<◌, ◌≤◌, ◌&&◌, true, false, List, length, take, is_some, IfOk, OnErr, OnOk, nat_lt, slice_index};
-ghost use Rattle.record.specs.Refusals.{refused_by};
-ghost use Rattle.record.specs.Format.{Content, Records};
-ghost use Rattle.record.specs.Reading.{PartsOf};
-ghost use Rattle.ranking.specs.Places.{Enterable, Entered, SmallPlaces};
-ghost use Rattle.ranking.specs.Listings.{listed, unlisted, content_meaning, fill_fault};
-ghost use Rattle.std.proofs.Common.{rules};
+ghost use Rattle.std.specs.Prelude.{◌≡◌, ℕ, ◌<◌, ◌≤◌, ◌&&◌, length, take, nat_lt, slice_index};
+ghost use Rattle.ranking.specs.Places.{DistinctPlaces, SmallPlaces, Enterable, Entered};
 
 use crate::interface::Ranking;
-use crate::table::{Listing, PlaceTable, Places};
 use record::read::{Parts, read};
 use record::refusal::Refusal;
 use record::word::{high_byte, low_byte, middle_byte};
+
+/// A row for each party, streams first and then lanes, and in it the place that the party gives each of the other side.
+type Places = [[Option<u16>; 16]; 32];
+
+/// What a record's choices say: the sizes, and the place that each party gives each of the other side.
+#[derive(Clone, Copy)]
+struct PlaceTable {
+    streams: u8,
+    lanes: u8,
+    places: Places,
+    ghost sizes: { (1 ≤ streams) × (streams ≤ 16) × (1 ≤ lanes) × (lanes ≤ 16) },
+    ghost strict: { DistinctPlaces places },
+    ghost small: { SmallPlaces places },
+}
+
+/// A ranking filled once from a record, whose ranks are the record's places.
+#[derive(Clone, Copy)]
+pub struct Listing {
+    table: Option<PlaceTable>,
+}
 
 // The table of the places that a record's choices give.
 fn places_of(choices: &[u32]) -> Places
@@ -37,6 +51,12 @@ impl PlaceTable {
 }
 
 impl Listing {
+    ghost use Rattle.std.specs.Prelude.{true, false, List, is_some, IfOk, OnErr, OnOk};
+    ghost use Rattle.record.specs.Refusals.{refused_by};
+    ghost use Rattle.record.specs.Format.{Content, Records};
+    ghost use Rattle.record.specs.Reading.{PartsOf};
+    ghost use Rattle.ranking.specs.Listings.{listed, unlisted, content_meaning, fill_fault};
+
     /// A listing of one stream and one lane where nobody ranks anybody.
     pub fn new() -> Listing
         ensures ranks_nobody { listed result ≡ unlisted }
@@ -68,6 +88,9 @@ impl Listing {
 }
 
 impl Ranking for Listing {
+    ghost use Rattle.std.proofs.Common.{rules};
+    ghost use Rattle.ranking.specs.Listings.{listed};
+
     ghost meaning = { listed };
 
     ghost sized = { Prim.search rules };

@@ -1,17 +1,35 @@
-ghost use Rattle.std.specs.Prelude.{◌≡◌, ℕ, ◌+◌, ◌<◌, ◌≤◌, true, false, map, length, is_some, IfOk, OnErr, OnOk};
+ghost use Rattle.std.specs.Prelude.{◌≡◌, ◌<◌, ◌≤◌, map, length, IfOk};
 ghost use Rattle.record.specs.Refusals.{refused_by};
-ghost use Rattle.ranking.specs.Listings.{unlisted};
-ghost use Rattle.ranking.specs.Figures.{stream_figured, lane_figured, figured_at, score, score_between, small, side_fault, some_figures, lists_fault, figures_fault, figures_meaning};
-ghost use Rattle.ranking.specs.Scorings.{SideOf, scored};
-ghost use Rattle.std.proofs.Common.{rules};
+ghost use Rattle.ranking.specs.Figures.{stream_figured, lane_figured, figured_at, score, score_between, small, Small, side_fault, some_figures, lists_fault, figures_fault, figures_meaning};
 
 use crate::figures::{LaneFigures, PartyFigures, StreamFigures};
 use crate::interface::Ranking;
-use crate::side::{Scoring, Side, Sides};
 use record::refusal::Refusal;
 
 /// The largest figure.
 pub const MOST_FIGURE: u16 = 1023;
+
+/// The figures of one side, 1 to 16 parties.
+#[derive(Clone, Copy)]
+struct Side {
+    count: u8,
+    figures: [PartyFigures; 16],
+    ghost few: { (1 ≤ count) × (count ≤ 16) },
+    ghost small: { Small figures },
+}
+
+/// The figures of both sides.
+#[derive(Clone, Copy)]
+struct Sides {
+    streams: Side,
+    lanes: Side,
+}
+
+/// A ranking worked out from figures, filled once.
+#[derive(Clone, Copy)]
+pub struct Scoring {
+    sides: Option<Sides>,
+}
 
 impl PartyFigures {
     // Whether no figure is over 1,023.
@@ -31,28 +49,6 @@ impl PartyFigures {
     }
 }
 
-// The figures of one side, read record by record. `first` is its first party's number.
-fn side_of<F: Into<PartyFigures> + Copy>(records: &[F], first: u8) -> Result<Side, Refusal>
-    ghost figured: { F → PartyFigures }
-    requires converted_as_told { (x : F) (y : PartyFigures) → F.converts x y → y ≡ figured x }
-    requires few { (1 ≤ length records.now) × (length records.now ≤ 16) × (first ≤ 16) }
-    ensures refused_as_told { refused_by result ≡ side_fault first (map figured records.now) }
-    ensures figures_as_given { IfOk result (λ x. SideOf x (map figured records.now)) }
-{
-    let mut figures = [PartyFigures::default(); 16];
-    for (k, record) in records.iter().enumerate() {
-        let party: PartyFigures = (*record).into();
-        if !party.is_small() {
-            return Err(Refusal::Figure(first + k as u8));
-        }
-        figures[k] = party;
-    }
-    Ok(Side {
-        count: records.len() as u8,
-        figures,
-    })
-}
-
 // Whether a list has 1 to 16 records.
 fn some_figures(count: usize) -> bool
     ensures is_the_rule { result ≡ some_figures count }
@@ -61,6 +57,30 @@ fn some_figures(count: usize) -> bool
 }
 
 impl Side {
+    ghost use Rattle.ranking.specs.Scorings.{SideOf};
+
+    // The figures of one side, read record by record. `first` is its first party's number.
+    fn of<F: Into<PartyFigures> + Copy>(records: &[F], first: u8) -> Result<Side, Refusal>
+        ghost figured: { F → PartyFigures }
+        requires converted_as_told { (x : F) (y : PartyFigures) → F.converts x y → y ≡ figured x }
+        requires few { (1 ≤ length records.now) × (length records.now ≤ 16) × (first ≤ 16) }
+        ensures refused_as_told { refused_by result ≡ side_fault first (map figured records.now) }
+        ensures figures_as_given { IfOk result (λ x. SideOf x (map figured records.now)) }
+    {
+        let mut figures = [PartyFigures::default(); 16];
+        for (k, record) in records.iter().enumerate() {
+            let party: PartyFigures = (*record).into();
+            if !party.is_small() {
+                return Err(Refusal::Figure(first + k as u8));
+            }
+            figures[k] = party;
+        }
+        Ok(Side {
+            count: records.len() as u8,
+            figures,
+        })
+    }
+
     // The rank that number `of` of this side gives number `number` of the other.
     fn score(&self, of: u8, ranked: &Side, number: u8) -> Option<u16>
         ensures is_the_score { result ≡ score_between self.now.count ranked.now.count (figured_at self.now.figures) (figured_at ranked.now.figures) of number }
@@ -74,6 +94,8 @@ impl Side {
 }
 
 impl Sides {
+    ghost use Rattle.ranking.specs.Scorings.{SideOf};
+
     // The figures of both sides, of 1 to 16 records each.
     fn of(streams: &[StreamFigures], lanes: &[LaneFigures]) -> Result<Sides, Refusal>
         ensures refused_as_told { refused_by result ≡ lists_fault (map stream_figured streams.now) (map lane_figured lanes.now) }
@@ -82,8 +104,8 @@ impl Sides {
         if !some_figures(streams.len()) || !some_figures(lanes.len()) {
             return Err(Refusal::Figure(255));
         }
-        let stream_side = side_of(streams, 0)?;
-        let lane_side = side_of(lanes, streams.len() as u8)?;
+        let stream_side = Side::of(streams, 0)?;
+        let lane_side = Side::of(lanes, streams.len() as u8)?;
         Ok(Sides {
             streams: stream_side,
             lanes: lane_side,
@@ -92,6 +114,10 @@ impl Sides {
 }
 
 impl Scoring {
+    ghost use Rattle.std.specs.Prelude.{true, false, is_some, OnErr, OnOk};
+    ghost use Rattle.ranking.specs.Listings.{unlisted};
+    ghost use Rattle.ranking.specs.Scorings.{scored};
+
     /// A scoring of one stream and one lane where nobody ranks anybody.
     pub fn new() -> Scoring
         ensures ranks_nobody { scored result ≡ unlisted }
@@ -118,6 +144,9 @@ impl Scoring {
 }
 
 impl Ranking for Scoring {
+    ghost use Rattle.std.proofs.Common.{rules};
+    ghost use Rattle.ranking.specs.Scorings.{scored};
+
     ghost meaning = { scored };
 
     ghost sized = { Prim.search rules };

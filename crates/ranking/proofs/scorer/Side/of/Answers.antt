@@ -2,7 +2,7 @@ use Rattle.std.proofs.Common.{map, refl, sym, ap, ◌∙◌, arith, rules}
 use Rattle.std.proofs.lemmas.List.{length-map, length-set}
 use Rattle.ranking.specs.Figures.{small}
 use Rattle.ranking.proofs.Scores.{small_same, small_set, held_more, record_read, party_read, party_refused}
-use Rattle.ranking.proofs.scorer.side_of.Goals as goal
+use Rattle.ranking.proofs.scorer.Side.of.Goals as goal
 
 pub loop-k-init : goal.loop-k-init
 loop-k-init g c = record { unrefused = refl; held = λ i l. absurd (omega arith); small = small_same 16 c.default-figures.result (search rules); whole = refl }

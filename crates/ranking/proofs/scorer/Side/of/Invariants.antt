@@ -1,7 +1,7 @@
 use Rattle.std.proofs.Common.{◌≡◌, ℕ, ◌<◌, map, length, None}
 use Rattle.record.specs.Lists.{earliest}
 use Rattle.ranking.specs.Figures.{figured_at, Small, party_fault}
-use Rattle.ranking.proofs.scorer.side_of.Given as goal
+use Rattle.ranking.proofs.scorer.Side.of.Given as goal
 
 -- nothing refused so far, and the table holds the figures so far
 abbrev pub invariant-loop-k : goal.invariant-loop-k

@@ -1,6 +1,6 @@
 use Rattle.std.proofs.Common.{arith}
 use Rattle.ranking.proofs.Tables.{enterable, entered_distinct, table_content}
-use Rattle.ranking.proofs.table.Listing.fill.Goals as goal
+use Rattle.ranking.proofs.listing.Listing.fill.Goals as goal
 
 pub places_of-places-requires : goal.places_of-places-requires
 places_of-places-requires c =
