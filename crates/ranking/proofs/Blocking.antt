@@ -1,6 +1,8 @@
 -- Which pairs can block, and when a holding is stable.
-use Rattle.std.proofs.Common.{◌≡◌, ℕ, ◌+◌, ◌-◌, ◌<◌, ◌≤◌, Bool, true, false, not, ◌&&◌, ltb, ◌⊎◌, List, get_or, is_some, Some, None, Option, sym, refl, ap, ◌∙◌, inl, inr, ⊎_elim, arith}
+use Rattle.std.proofs.Common.{◌≡◌, ℕ, ◌+◌, ◌-◌, ◌<◌, ◌≤◌, Bool, true, false, not, ◌&&◌, ltb, ◌⊎◌, List, get_or, is_some, Some, None, Option, sym, refl, ap, ◌∙◌, inl, inr, ⊎_elim, arith, tests}
 use Rattle.std.proofs.lemmas.Bool.{lt-ltb, le-ltb, eqb-true, cond-true, cond-false, cases_lt, cases_Bool, both_ways, and_parts}
+use Rattle.std.proofs.Math.Bool.{and_comm}
+use Rattle.std.proofs.lemmas.Bool.Decides.{nat_tests}
 use Rattle.record.proofs.Lists.{place_at_lem}
 use Rattle.ranking.specs.Market.{Market, Meaning, market_of, prefers, Sized, Bounded, BoundedRanks, StreamAndLane, LawfulMarket}
 use Rattle.ranking.specs.Pairings.{LawfulPairing, lane_party, holding_of, TableOf}
@@ -15,20 +17,8 @@ prefers_same (Some k) = le-ltb k k (omega arith)
 
 -- only somebody who is ranked is wanted
 pub prefers_some : (a b : Option ℕ) → prefers a b ≡ true → (k : ℕ) × (a ≡ Some k)
-prefers_some None b e = absurd (both_ways false refl e)
+prefers_some None b e = absurd cc
 prefers_some (Some k) b e = (k, refl)
-
-and_swap : (a b : Bool) → (a && b) ≡ (b && a)
-and_swap true true = refl
-and_swap true false = refl
-and_swap false true = refl
-and_swap false false = refl
-
-without_held : (a b c d : Bool) → (a ≡ true → c ≡ false) → (not (a && b) && c && d) ≡ (c && d)
-without_held false b c d f = refl
-without_held true false c d f = refl
-without_held true true true d f = absurd (both_ways true (f refl) refl)
-without_held true true false d f = refl
 
 module _ (m : Market) (h : ℕ → Option ℕ) where
   -- nobody wants whom it holds
@@ -36,19 +26,18 @@ module _ (m : Market) (h : ℕ → Option ℕ) where
   held_unwanted p q e = go (h p) refl e
     where
       go : (o : Option ℕ) → h p ≡ o → is_party o q ≡ true → prefers (m.rank p q) (held_rank m h p) ≡ false
-      go None n e = absurd (both_ways false refl e)
+      go None n e = absurd cc
       go (Some r) n e =
           let same : r ≡ q = eqb-true r q e in
-          let held : held_rank m h p ≡ m.rank p q = ap (rank_of (m.rank p)) n ∙ ap (m.rank p) same in
-          ap (prefers (m.rank p q)) held ∙ prefers_same (m.rank p q)
+          ap (prefers (m.rank p q)) (ap (rank_of (m.rank p)) n ∙ ap (m.rank p) same) ∙ prefers_same (m.rank p q)
 
   -- two parties block where each wants the other
   pub blocks_wants : (p q : ℕ) → blocks m h p q ≡ (wants m h p q && wants m h q p)
-  blocks_wants p q = without_held (holds h p q) (holds h q p) (wants m h p q) (wants m h q p) (held_unwanted p q)
+  blocks_wants p q = let unwanted = held_unwanted p q in grind (arith, tests)
 
   -- it does not matter which of two parties comes first
   pub blocks_swap : (p q : ℕ) → blocks m h p q ≡ blocks m h q p
-  blocks_swap p q = blocks_wants p q ∙ and_swap (wants m h p q) (wants m h q p) ∙ sym (blocks_wants q p)
+  blocks_swap p q = blocks_wants p q ∙ and_comm (wants m h p q) (wants m h q p) ∙ sym (blocks_wants q p)
 
   -- where only a stream and a lane rank each other, and a holding is mutual and has a stream, it is
   -- enough to look at the streams, and at the pairs of a stream and a lane
@@ -60,7 +49,7 @@ module _ (m : Market) (h : ℕ → Option ℕ) where
       ranked_by p None e = ap (ranks_both m p) e
       ranked_by p (Some q) e = ⊎_elim
           (λ l. ranks p l)
-          (λ l. ap (ranks_both m p) e ∙ and_swap (is_some (m.rank p q)) (is_some (m.rank q p)) ∙ sym (ap (ranks_both m q) (returned p q e)) ∙ ranks q l)
+          (λ l. ap (ranks_both m p) e ∙ and_comm (is_some (m.rank p q)) (is_some (m.rank q p)) ∙ sym (ap (ranks_both m q) (returned p q e)) ∙ ranks q l)
           (sides p q e)
 
       pair : (p q : ℕ) → StreamAndLane m p q → blocks m h p q ≡ false
