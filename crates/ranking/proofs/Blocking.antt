@@ -7,7 +7,7 @@ use Rattle.record.proofs.Lists.{place_at_lem}
 use Rattle.ranking.specs.Market.{Market, Meaning, market_of, prefers, Sized, Bounded, BoundedRanks, StreamAndLane, LawfulMarket}
 use Rattle.ranking.specs.Pairings.{LawfulPairing, lane_party, holding_of, TableOf}
 use Rattle.ranking.specs.Stability.{rank_of, held_rank, wants, is_party, holds, blocks, ranks_both, held_ranked, Stable, RankedBelow, UnblockedBelow, UnblockedBefore}
-use Rattle.ranking.proofs.Holdings.{holding_stream, holding_lane, holding_tells, holding_mutual}
+use Rattle.ranking.proofs.Holdings.{holding_stream, holding_lane, has_stream, holding_tells, holding_mutual}
 use Rattle.ranking.proofs.Markets.{rank_stream, rank_lane}
 
 -- no rank is better than itself
@@ -78,15 +78,13 @@ no_rank rows columns table i j b h = go (table i j) refl
 module _ (x : Meaning) (bytes : List ℕ) where
   -- the rank that a stream gives the lane that its byte names
   pub stream_held : (i : ℕ) → BoundedRanks x → i < x.streams → held_rank (market_of x) (holding_of (market_of x) bytes) i ≡ x.by_stream i (get_or bytes i 0)
-  stream_held i b h = ap (rank_of ((market_of x).rank i)) (holding_stream (market_of x) bytes i h) ∙ ⊎_elim named nobody (cases_lt (get_or bytes i 0) x.lanes)
-    where
-      named : get_or bytes i 0 < x.lanes → rank_of ((market_of x).rank i) (lane_party (market_of x) (get_or bytes i 0)) ≡ x.by_stream i (get_or bytes i 0)
-      named l = ap (rank_of ((market_of x).rank i)) (cond-true (ltb (get_or bytes i 0) x.lanes) _ _ (lt-ltb (get_or bytes i 0) x.lanes l)) ∙ rank_stream x i (get_or bytes i 0) h
-
-      nobody : x.lanes ≤ get_or bytes i 0 → rank_of ((market_of x).rank i) (lane_party (market_of x) (get_or bytes i 0)) ≡ x.by_stream i (get_or bytes i 0)
-      nobody l =
-          ap (rank_of ((market_of x).rank i)) (cond-false (ltb (get_or bytes i 0) x.lanes) _ _ (le-ltb (get_or bytes i 0) x.lanes l))
-          ∙ sym (no_rank x.streams x.lanes x.by_stream i (get_or bytes i 0) b.0 l)
+  stream_held i b h =
+      let rank = (market_of x).rank i in
+      let byte = get_or bytes i 0 in
+      ap (rank_of rank) (holding_stream (market_of x) bytes i h) ∙ ⊎_elim
+          (λ l. let named : lane_party (market_of x) byte ≡ Some (x.streams + byte) = grind (arith, nat_tests) in ap (rank_of rank) named ∙ rank_stream x i byte h)
+          (λ l. let nobody : lane_party (market_of x) byte ≡ None = grind (arith, nat_tests) in ap (rank_of rank) nobody ∙ sym (no_rank x.streams x.lanes x.by_stream i byte b.0 l))
+          (cases_lt byte x.lanes)
 
   -- the rank that a lane gives the stream that the table names for it
   pub lane_held : (table : List (Option ℕ)) (j : ℕ) → Sized x → LawfulPairing (market_of x) bytes → TableOf bytes table → j < x.lanes → held_rank (market_of x) (holding_of (market_of x) bytes) (x.streams + j) ≡ rank_of (x.by_lane j) (get_or table j None)
@@ -98,39 +96,22 @@ module _ (x : Meaning) (bytes : List ℕ) where
           let at = place_at_lem j bytes k (sym (t.1 j (omega arith)) ∙ e) in
           rank_lane x j k (omega (arith, at.0, p.count))
 
-  -- when a stream and a lane block, by the tables
-  pub pair_blocks : (table : List (Option ℕ)) (i j : ℕ) → Sized x → BoundedRanks x → LawfulPairing (market_of x) bytes → TableOf bytes table → i < x.streams → j < x.lanes → blocks (market_of x) (holding_of (market_of x) bytes) i (x.streams + j) ≡ (prefers (x.by_stream i j) (x.by_stream i (get_or bytes i 0)) && prefers (x.by_lane j i) (rank_of (x.by_lane j) (get_or table j None)))
-  pair_blocks table i j z b p t h l =
-      let m = market_of x in
-      let held = holding_of m bytes in
-      let q = x.streams + j in
-      blocks_wants m held i q
-      ∙ ap (λ o. prefers o (held_rank m held i) && wants m held q i) (rank_stream x i j h)
-      ∙ ap (λ o. prefers (x.by_stream i j) o && wants m held q i) (stream_held i b h)
-      ∙ ap (λ o. prefers (x.by_stream i j) (x.by_stream i (get_or bytes i 0)) && prefers o (held_rank m held q)) (rank_lane x j i h)
-      ∙ ap (λ o. prefers (x.by_stream i j) (x.by_stream i (get_or bytes i 0)) && prefers (x.by_lane j i) o) (lane_held table j z p t l)
-
-  -- the same of a test that compared these ranks, with the stream's own rank read before
+  -- when a stream and a lane block, by a test that compared their ranks in the tables, with the stream's own rank read before
   pub pair_tested : (table : List (Option ℕ)) (i j : ℕ) (held : Option ℕ) (test : Bool) → Sized x → BoundedRanks x → LawfulPairing (market_of x) bytes → TableOf bytes table → i < x.streams → j < x.lanes → held ≡ x.by_stream i (get_or bytes i 0) → test ≡ (prefers (x.by_stream i j) held && prefers (x.by_lane j i) (rank_of (x.by_lane j) (get_or table j None))) → blocks (market_of x) (holding_of (market_of x) bytes) i (x.streams + j) ≡ test
   pair_tested table i j held test z b p t h l read is =
-      pair_blocks table i j z b p t h l
-      ∙ ap (λ o. prefers (x.by_stream i j) o && prefers (x.by_lane j i) (rank_of (x.by_lane j) (get_or table j None))) (sym read)
-      ∙ sym is
+      let wanted = blocks_wants (market_of x) (holding_of (market_of x) bytes) i (x.streams + j) in
+      cc (wanted, rank_stream x i j h, rank_lane x j i h, stream_held i b h, lane_held table j z p t l)
 
   -- whether a stream and the lane that it holds rank each other, by a test of the tables
   pub stream_tested : (i : ℕ) (test : Bool) → i < x.streams → get_or bytes i 0 < x.lanes → test ≡ (is_some (x.by_stream i (get_or bytes i 0)) && is_some (x.by_lane (get_or bytes i 0) i)) → held_ranked (market_of x) (holding_of (market_of x) bytes) i ≡ test
   stream_tested i test h l is =
-      let m = market_of x in
       let lane = get_or bytes i 0 in
-      ap (ranks_both m i) (holding_stream m bytes i h ∙ cond-true (ltb lane x.lanes) _ _ (lt-ltb lane x.lanes l))
-      ∙ ap (λ o. is_some o && is_some (m.rank (x.streams + lane) i)) (rank_stream x i lane h)
-      ∙ ap (λ o. is_some (x.by_stream i lane) && is_some o) (rank_lane x lane i h)
-      ∙ sym is
+      let held = has_stream (market_of x) bytes i lane (h, l, refl) in
+      ap (ranks_both (market_of x) i) held ∙ cc (rank_stream x i lane h, rank_lane x lane i h)
 
 -- a stream that holds nobody has nobody to rank
 pub stream_alone : (m : Market) (bytes : List ℕ) (i : ℕ) → i < m.streams → m.lanes ≤ get_or bytes i 0 → held_ranked m (holding_of m bytes) i ≡ true
-stream_alone m bytes i h l =
-    ap (ranks_both m i) (holding_stream m bytes i h ∙ cond-false (ltb (get_or bytes i 0) m.lanes) _ _ (le-ltb (get_or bytes i 0) m.lanes l))
+stream_alone m bytes i h l = let nobody : holding_of m bytes i ≡ None = grind (arith, nat_tests) in ap (ranks_both m i) nobody
 
 -- a lawful pairing in a lawful market is stable where no stream and no pair of a stream and a lane is
 -- against it
