@@ -36,12 +36,11 @@ table_skip xs table byte t h = (t.0, λ j b. t.1 j b ∙ sym (place_push_other j
 pub fault_at_lem : (m : Market) (bytes : List ℕ) (i : ℕ) → length bytes ≡ m.streams → i < m.streams → earliest (stream_fault m bytes) i ≡ None → wrong_at m bytes i ≡ true → pairing_fault m bytes ≡ Some (8, i)
 fault_at_lem m bytes i n h e w =
     let found = earliest_found (stream_fault m bytes) i m.streams (8, i) h e (ap (λ b. refuse_if b (8, i)) w) in
-    ap (λ b. or_else (refuse_if (not b) (8, 255)) (earliest (stream_fault m bytes) m.streams)) (eq-eqb (length bytes) m.streams n) ∙ found
+    grind (arith, nat_tests)
 
 -- the pairing is not refused where no stream's byte is wrong
 pub fault_none : (m : Market) (bytes : List ℕ) → length bytes ≡ m.streams → earliest (stream_fault m bytes) m.streams ≡ None → pairing_fault m bytes ≡ None
-fault_none m bytes n e =
-    ap (λ b. or_else (refuse_if (not b) (8, 255)) (earliest (stream_fault m bytes) m.streams)) (eq-eqb (length bytes) m.streams n) ∙ e
+fault_none m bytes n e = grind (arith, nat_tests)
 
 -- what is known once the streams below i are read
 abbrev pub ReadTo : (m : Market) (bytes : List ℕ) (i : ℕ) (table : List (Option ℕ)) → Type 0
