@@ -16,15 +16,11 @@ small_same n v h k =
     (cases_lt k n)
 
 pub small_set : (xs : List PartyFigures) (k : ℕ) (v : PartyFigures) → k < length xs → small v ≡ true → Small xs → Small (set xs k v)
-small_set xs k v h l s i =
-    ⊎_elim (λ e. ap (λ j. small (figured_at (set xs k v) j)) e ∙ ap small (get_or-set_same xs k v unfigured h) ∙ l)
-    (λ n. ap small (get_or-set_other xs k i v unfigured n) ∙ s i)
-    (cases_eq i k)
+small_set xs k v h l s i = let same = get_or-set_same xs k v unfigured h in let other = get_or-set_other xs k i v unfigured in let kept = s i in grind arith
 
 -- one more party's figures in the table
 pub held_more : (xs table : List PartyFigures) (k : ℕ) (v : PartyFigures) → k < length table → v ≡ figured_at xs k → ((i : ℕ) → i < k → figured_at table i ≡ figured_at xs i) → (i : ℕ) → i < k + 1 → figured_at (set table k v) i ≡ figured_at xs i
-held_more xs table k v h e known =
-    below_more _ k (λ i l. get_or-set_other table k i v unfigured (λ s. absurd (omega arith)) ∙ known i l) (get_or-set_same table k v unfigured h ∙ e)
+held_more xs table k v h e known i l = let same = get_or-set_same table k v unfigured h in let other = get_or-set_other table k i v unfigured in let kept = known i in grind arith
 
 -- the figures that a record of the list gives
 pub record_read : {X : Type 0} (f : X → PartyFigures) (xs : List X) (k : ℕ) (x : X) → k < length xs → x ≡ get_or xs k x → f x ≡ figured_at (map f xs) k
