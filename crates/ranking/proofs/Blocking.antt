@@ -1,6 +1,6 @@
 -- Which pairs can block, and when a holding is stable.
-use Rattle.std.proofs.Common.{◌≡◌, ℕ, ◌+◌, ◌-◌, ◌<◌, ◌≤◌, Bool, true, false, not, ◌&&◌, ltb, ◌⊎◌, List, get_or, is_some, Some, None, Option, sym, refl, ap, ◌∙◌, inl, inr, ⊎_elim, arith, tests}
-use Rattle.std.proofs.lemmas.Bool.{lt-ltb, le-ltb, eqb-true, cond-true, cond-false, cases_lt, cases_Bool, both_ways, and_parts}
+use Rattle.std.proofs.Common.{◌≡◌, ℕ, ◌+◌, ◌-◌, ◌<◌, ◌≤◌, Bool, true, false, ◌&&◌, ◌⊎◌, List, get_or, is_some, Some, None, Option, sym, refl, ap, ◌∙◌, inl, inr, ⊎_elim, arith, tests}
+use Rattle.std.proofs.lemmas.Bool.{le-ltb, eqb-true, cases_lt, cases_Bool, and_parts}
 use Rattle.std.proofs.Math.Bool.{and_comm}
 use Rattle.std.proofs.lemmas.Bool.Decides.{nat_tests}
 use Rattle.record.proofs.Lists.{place_at_lem}
@@ -82,9 +82,9 @@ module _ (x : Meaning) (bytes : List ℕ) where
       let rank = (market_of x).rank i in
       let byte = get_or bytes i 0 in
       ap (rank_of rank) (holding_stream (market_of x) bytes i h) ∙ ⊎_elim
-          (λ l. let named : lane_party (market_of x) byte ≡ Some (x.streams + byte) = grind (arith, nat_tests) in ap (rank_of rank) named ∙ rank_stream x i byte h)
-          (λ l. let nobody : lane_party (market_of x) byte ≡ None = grind (arith, nat_tests) in ap (rank_of rank) nobody ∙ sym (no_rank x.streams x.lanes x.by_stream i byte b.0 l))
-          (cases_lt byte x.lanes)
+      (λ l. let named : lane_party (market_of x) byte ≡ Some (x.streams + byte) = grind (arith, nat_tests) in ap (rank_of rank) named ∙ rank_stream x i byte h)
+      (λ l. let nobody : lane_party (market_of x) byte ≡ None = grind (arith, nat_tests) in ap (rank_of rank) nobody ∙ sym (no_rank x.streams x.lanes x.by_stream i byte b.0 l))
+      (cases_lt byte x.lanes)
 
   -- the rank that a lane gives the stream that the table names for it
   pub lane_held : (table : List (Option ℕ)) (j : ℕ) → Sized x → LawfulPairing (market_of x) bytes → TableOf bytes table → j < x.lanes → held_rank (market_of x) (holding_of (market_of x) bytes) (x.streams + j) ≡ rank_of (x.by_lane j) (get_or table j None)

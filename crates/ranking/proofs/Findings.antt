@@ -1,5 +1,5 @@
 -- What the finder's answer decides.
-use Rattle.std.proofs.Common.{◌≡◌, ℕ, ◌+◌, ◌↔◌, IfOk, None, Ok, Err, Option, Result, sym, refl, arith}
+use Rattle.std.proofs.Common.{◌≡◌, ℕ, ◌+◌, ◌↔◌, IfOk, None, Ok, Err, Option, Result, sym, refl}
 use Rattle.std.proofs.lemmas.Bool.{both_ways}
 use Rattle.record.specs.Refusals.{refused_by}
 use Rattle.record.specs.declared.refusal.Refusal.{Refusal}

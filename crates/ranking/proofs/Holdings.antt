@@ -1,5 +1,5 @@
 -- Whom each party holds under a lawful pairing: a stream and a lane, each the other.
-use Rattle.std.proofs.Common.{◌≡◌, ℕ, ◌+◌, ◌-◌, ◌<◌, ◌≤◌, true, ◌⊎◌, List, get_or, is_some, Some, None, Option, sym, refl, ap, ◌∙◌, inl, inr, ⊎_elim, arith}
+use Rattle.std.proofs.Common.{◌≡◌, ℕ, ◌+◌, ◌-◌, ◌<◌, true, ◌⊎◌, List, get_or, is_some, Some, None, Option, sym, refl, ap, ◌∙◌, inl, inr, ⊎_elim, arith}
 use Rattle.std.proofs.lemmas.Bool.{cases_lt}
 use Rattle.std.proofs.lemmas.Bool.Decides.{nat_tests}
 use Rattle.record.specs.Lists.{place_in}
@@ -38,10 +38,10 @@ pub holding_tells : (m : Market) (bytes : List ℕ) (p q : ℕ) → LawfulPairin
 holding_tells m bytes p q l e = ⊎_elim
     (λ b. let named : (get_or bytes p 0 < m.lanes) × (q ≡ m.streams + get_or bytes p 0) = grind (arith, nat_tests) in inl (get_or bytes p 0, named.1, (b, named.0, refl)))
     (λ b.
-      let placed : place_in (p - m.streams) bytes ≡ Some q = grind (arith, nat_tests) in
-      let lane : p - m.streams < m.lanes = grind (arith, nat_tests) in
-      let at = place_at_lem (p - m.streams) bytes q placed in
-      inr (p - m.streams, omega arith, (omega (arith, at.0, l.count), lane, at.1)))
+    let placed : place_in (p - m.streams) bytes ≡ Some q = grind (arith, nat_tests) in
+    let lane : p - m.streams < m.lanes = grind (arith, nat_tests) in
+    let at = place_at_lem (p - m.streams) bytes q placed in
+    inr (p - m.streams, omega arith, (omega (arith, at.0, l.count), lane, at.1)))
     (cases_lt p m.streams)
 
 -- a holding is mutual

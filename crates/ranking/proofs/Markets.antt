@@ -1,5 +1,5 @@
 -- What the market of a ranking's meaning ranks, and that it is lawful where the two tables are.
-use Rattle.std.proofs.Common.{◌≡◌, ℕ, ◌+◌, ◌-◌, ◌<◌, ◌≤◌, ◌⊎◌, Some, inl, inr, ⊎_elim, arith}
+use Rattle.std.proofs.Common.{◌≡◌, ℕ, ◌+◌, ◌-◌, ◌<◌, ◌≤◌, ◌⊎◌, Some, arith}
 use Rattle.std.proofs.lemmas.Bool.Decides.{nat_tests}
 use Rattle.ranking.specs.Market.{Meaning, rank_across, market_of, Sized, BoundedRanks, StrictRanks, LawfulMarket}
 
@@ -21,9 +21,9 @@ lawful_market x z b d = record {
   across = λ p q k e. let told = rank_tells x p q k e in let lane = b.0 p (q - x.streams) k in let stream = b.1 (p - x.streams) q k in grind arith;
   bounded = λ p q k e. let told = rank_tells x p q k e in let lane = b.0 p (q - x.streams) k in let stream = b.1 (p - x.streams) q k in grind arith;
   strict = λ p q r k e f.
-    let first = rank_tells x p q k e in
-    let second = rank_tells x p r k f in
-    let lanes = d.0 p (q - x.streams) (r - x.streams) k in
-    let streams = d.1 (p - x.streams) q r k in
-    grind arith;
+      let first = rank_tells x p q k e in
+      let second = rank_tells x p r k f in
+      let lanes = d.0 p (q - x.streams) (r - x.streams) k in
+      let streams = d.1 (p - x.streams) q r k in
+      grind arith;
 }

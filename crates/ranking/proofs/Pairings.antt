@@ -1,9 +1,9 @@
 -- What a pairing that is not refused keeps, and the table of the lanes' streams.
-use Rattle.std.proofs.Common.{◌≡◌, ℕ, ◌+◌, ◌<◌, ◌≤◌, Bool, true, false, not, eqb, ltb, ◌⊎◌, List, [], ◌∷◌, ◌++◌, length, get_or, take, set, is_some, Some, None, Option, sym, refl, ap, ◌∙◌, inl, inr, ⊎_elim, arith}
+use Rattle.std.proofs.Common.{◌≡◌, ℕ, ◌+◌, ◌<◌, ◌≤◌, true, false, not, eqb, ◌⊎◌, List, [], ◌∷◌, ◌++◌, length, get_or, take, set, is_some, Some, None, Option, sym, refl, ap, ◌∙◌, inl, inr, ⊎_elim, arith}
 use Rattle.std.proofs.lemmas.List.{take_more, get_or-take, length-take-le, length-set, get_or-set_same, get_or-set_other}
-use Rattle.std.proofs.lemmas.Bool.{eq-eqb, ne_eqb, eqb-true, lt-ltb, le-ltb, cond-true, cond-false, cases_eq, cases_lt, cases_order, both_ways, not-false}
+use Rattle.std.proofs.lemmas.Bool.{eq-eqb, ne_eqb, cases_eq, cases_order, both_ways}
 use Rattle.std.proofs.lemmas.Bool.Decides.{nat_tests}
-use Rattle.record.specs.Refusals.{or_else, refuse_if}
+use Rattle.record.specs.Refusals.{refuse_if}
 use Rattle.record.specs.Lists.{among, place_in, earliest}
 use Rattle.record.proofs.Lists.{among_place, among_from, place_at_lem, place_push_other, place_push_new, earliest_more, earliest_found, earliest_none, none_earliest}
 use Rattle.ranking.specs.Market.{Market}

@@ -1,8 +1,8 @@
 -- Tables of places.
-use Rattle.std.specs.Prelude.{◌≡◌, ℕ, ◌+◌, ◌<◌, ◌≤◌, false, cond, ◌⊎◌, ◌≢◌, List, [], ◌∷◌, ◌++◌, length, get_or, take, replicate, is_some, Some, None, Option, nat_lt, slice_index, slice_set, refl}
-use Rattle.std.proofs.Common.{sym, ◌∙◌, ap, subst, inl, inr, ⊎_elim, arith}
+use Rattle.std.specs.Prelude.{◌≡◌, ℕ, ◌+◌, ◌<◌, ◌≤◌, false, cond, ◌&&◌, List, [], ◌∷◌, ◌++◌, length, get_or, take, replicate, Some, None, Option, ◌==◌, nat_lt, slice_index, slice_set, refl}
+use Rattle.std.proofs.Common.{sym, ◌∙◌, ap, subst, ⊎_elim, arith}
 use Rattle.std.proofs.lemmas.List.{get_or-replicate, get_or_past, length-replicate, length-set, get_or-set_same, get_or-set_other}
-use Rattle.std.proofs.lemmas.Bool.{cases_lt, cases_eq, ne_eqb}
+use Rattle.std.proofs.lemmas.Bool.{cases_lt, ne_eqb}
 use Rattle.std.proofs.lemmas.Bool.Decides.{nat_tests}
 use Rattle.std.specs.List.{AllByRecursion}
 use Rattle.record.specs.Lists.{among, place_in, next}
@@ -46,57 +46,44 @@ entered places p q v = slice_set places p (slice_set (row_of places p) q (Some v
 
 module _ (places : List (List (Option ℕ))) (whole : WholeTable places) (o y v : ℕ) (row : o < 32) (column : y < 16) where
   -- it stands where it was entered, and all others stand as they stood
-  pub entered_at : (p q : ℕ) → ((p ≡ o) × (q ≡ y) × (place_at (entered places o y v) p q ≡ Some v)) ⊎ ((p ≡ o → q ≢ y) × (place_at (entered places o y v) p q ≡ place_at places p q))
-  entered_at p q = ⊎_elim (λ e. ⊎_elim (λ f. inl (e, f, same e f)) (λ n. inr (λ _. n, column_other e n)) (cases_eq q y)) (λ n. inr (λ e. absurd (n e), ap (λ (r : List (Option ℕ)). get_or r q None) (get_or-set_other places o p (slice_set (row_of places o) y (Some v)) [] n))) (cases_eq p o)
-    where
-      new_row : p ≡ o → row_of (entered places o y v) p ≡ slice_set (row_of places o) y (Some v)
-      new_row e = ap (row_of (entered places o y v)) e ∙ get_or-set_same places o (slice_set (row_of places o) y (Some v)) [] (omega (arith, whole.0))
-
-      same : p ≡ o → q ≡ y → place_at (entered places o y v) p q ≡ Some v
-      same e f = ap (λ (r : List (Option ℕ)). get_or r q None) (new_row e) ∙ ap (λ k. get_or (slice_set (row_of places o) y (Some v)) k None) f ∙ get_or-set_same (row_of places o) y (Some v) None (omega (arith, whole.1 o row))
-
-      column_other : p ≡ o → q ≢ y → place_at (entered places o y v) p q ≡ place_at places p q
-      column_other e n = ap (λ (r : List (Option ℕ)). get_or r q None) (new_row e) ∙ get_or-set_other (row_of places o) y q (Some v) None n ∙ ap (λ r. place_at places r q) (sym e)
+  pub entered_at : (p q : ℕ) → place_at (entered places o y v) p q ≡ cond (p == o && q == y) (Some v) (place_at places p q)
+  entered_at p q =
+      let new_row = get_or-set_same places o (slice_set (row_of places o) y (Some v)) [] (omega (arith, whole.0)) in
+      let rows = get_or-set_other places o p (slice_set (row_of places o) y (Some v)) [] in
+      let place = get_or-set_same (row_of places o) y (Some v) None (omega (arith, whole.1 o row)) in
+      let others = get_or-set_other (row_of places o) y q (Some v) None in
+      grind (arith, nat_tests)
 
   pub entered_whole : WholeTable (entered places o y v)
   entered_whole = (
     length-set places o (slice_set (row_of places o) y (Some v)) ∙ whole.0,
-    λ p h. ⊎_elim
-        (λ e. ap (λ r. length (row_of (entered places o y v) r)) e ∙ ap length (get_or-set_same places o (slice_set (row_of places o) y (Some v)) [] (omega (arith, whole.0))) ∙ length-set (row_of places o) y (Some v) ∙ whole.1 o row)
-        (λ n. ap length (get_or-set_other places o p (slice_set (row_of places o) y (Some v)) [] n) ∙ whole.1 p h)
-        (cases_eq p o),
+    λ p h.
+        let new_row = get_or-set_same places o (slice_set (row_of places o) y (Some v)) [] (omega (arith, whole.0)) in
+        let rows = get_or-set_other places o p (slice_set (row_of places o) y (Some v)) [] in
+        let long = length-set (row_of places o) y (Some v) in
+        let were = whole.1 p h in
+        let was = whole.1 o row in
+        grind arith,
   )
 
   pub entered_small : v ≤ 65535 → SmallPlaces places → SmallPlaces (entered places o y v)
-  entered_small small known p q k e = ⊎_elim
-      (λ t. let same : v ≡ k = grind arith in omega arith)
-      (λ t. known p q k (sym t.1 ∙ e))
-      (entered_at p q)
+  entered_small small known p q k e = let at = entered_at p q in let were = known p q k in grind (arith, nat_tests)
 
 -- a party that is not among those named has no place
 not_among : (x : ℕ) (xs : List ℕ) → among x xs ≡ false → place_in x xs ≡ None
-not_among x xs e = none (place_in x xs) (sym (among_place x xs) ∙ e)
-  where
-    none : (o : Option ℕ) → is_some o ≡ false → o ≡ None
-    none None h = refl
-    none (Some k) h = grind arith
+not_among x xs e = let place = among_place x xs in grind arith
 
 -- one more choice entered
 pub one_entered : (places : List (List (Option ℕ))) (ws : List ℕ) (w : ℕ) → WholeTable places → Enterable ws w → Entered places ws → Entered (entered places (high w) (low w) (middle w)) (ws ++ w ∷ [])
-one_entered places ws w whole fit known p q = ⊎_elim (λ t. same t.0 t.1 t.2) (λ t. t.1 ∙ known p q ∙ other t.0 (cases_eq p (high w))) (entered_at places whole (high w) (low w) (middle w) fit.row fit.column p q)
-  where
-    same : p ≡ high w → q ≡ low w → place_at (entered places (high w) (low w) (middle w)) p q ≡ Some (middle w) → place_at (entered places (high w) (low w) (middle w)) p q ≡ place_in q (ranked_by (ws ++ w ∷ []) p)
-    same e f s =
-        s
-        ∙ ap Some fit.place
-        ∙ sym (place_push_new (low w) (ranked_by ws (high w)) (not_among (low w) (ranked_by ws (high w)) fit.new))
-        ∙ ap (place_in (low w)) (sym (ranked_by_push ws w (high w) fit.is_of_kind refl))
-        ∙ ap (λ x. place_in x (ranked_by (ws ++ w ∷ []) (high w))) (sym f)
-        ∙ ap (λ x. place_in q (ranked_by (ws ++ w ∷ []) x)) (sym e)
-
-    other : (p ≡ high w → q ≢ low w) → (p ≡ high w) ⊎ (p ≢ high w) → place_in q (ranked_by ws p) ≡ place_in q (ranked_by (ws ++ w ∷ []) p)
-    other n (inl e) = sym (ap (place_in q) (ranked_by_push ws w p fit.is_of_kind (sym e)) ∙ place_push_other q (low w) (ranked_by ws p) (ne_eqb q (low w) (n e)))
-    other n (inr m) = ap (place_in q) (sym (ranked_by_other ws w p fit.is_of_kind (λ s. m (sym s))))
+one_entered places ws w whole fit known p q =
+    let at = entered_at places whole (high w) (low w) (middle w) fit.row fit.column p q in
+    let were = known p q in
+    let place = fit.place in
+    let named = ranked_by_push ws w p fit.is_of_kind in
+    let others = ranked_by_other ws w p fit.is_of_kind in
+    let new = place_push_new (low w) (ranked_by ws (high w)) (not_among (low w) (ranked_by ws (high w)) fit.new) in
+    let old = place_push_other q (low w) (ranked_by ws p) in
+    grind (arith, nat_tests)
 
 -- a table that is right for some choices gives no place twice
 pub entered_distinct : (places : List (List (Option ℕ))) (ws : List ℕ) → Entered places ws → DistinctPlaces places
