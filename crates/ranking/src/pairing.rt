@@ -22,7 +22,7 @@ pub(crate) struct CheckedPairing<'a, R: Ranking> {
     pub(crate) pairing: &'a [u8],
     pub(crate) lane_streams: [Option<u8>; MOST_LANES],
     ghost not_refused: { pairing_fault (market_of (R.meaning ranking.now)) pairing.now ≡ None } by { Prim.hlevel props },
-    ghost table_as_told: { TableOf pairing.now lane_streams },
+    ghost names_each_lanes_stream: { TableOf pairing.now lane_streams },
 }
 
 // By hand: a derive would ask that the ranking, which is only lent, may be dropped.
@@ -40,7 +40,7 @@ impl<'a, R: Ranking> CheckedPairing<'a, R> {
     // Refuses 8 where the list is no pairing of the ranking's streams and lanes.
     pub(crate) fn new(ranking: &'a R, pairing: &'a [u8]) -> Result<CheckedPairing<'a, R>, Refusal>
         ensures refused_as_told { refused_by result ≡ pairing_fault (market_of (R.meaning ranking.now)) pairing.now }
-        ensures as_given { IfOk result (λ p. (p.ranking.now ≡ ranking.now) × (p.pairing.now ≡ pairing.now)) }
+        ensures of_this_ranking_and_pairing { IfOk result (λ p. (p.ranking.now ≡ ranking.now) × (p.pairing.now ≡ pairing.now)) }
     {
         let streams = ranking.streams();
         let lanes = ranking.lanes();

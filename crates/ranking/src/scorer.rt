@@ -39,7 +39,7 @@ impl PartyFigures {
         self.own <= MOST_FIGURE && self.wish <= MOST_FIGURE && self.reach <= MOST_FIGURE
     }
 
-    // The rank that this party gives number `number` of the other side, with these figures.
+    // The rank that this party gives a party of the other side, with these figures and this number.
     fn score(self, ranked: PartyFigures, number: u8) -> Option<u16>
         requires small_figures { (self.wish ≤ 1023) × (ranked.own ≤ 1023) }
         ensures is_the_score { result ≡ score self ranked number }

@@ -12,7 +12,7 @@ use Rattle.ranking.proofs.finder.find.Goals as goal
 pub returns : goal.returns
 returns g c =
     let paired = c.in_ok-paired.paired in
-    let given = c.in_ok-paired.ensures.as_given in
+    let given = c.in_ok-paired.ensures.of_this_ranking_and_pairing in
     let x = g.R.Ranking.meaning paired.ranking.now in
     let m = market_of x in
     let bytes = paired.pairing.now in

@@ -16,7 +16,7 @@ loop-lane-preserved g c =
       before =
           below_more _ _ c.loop-lane.invariant.before
           (pair_tested x bytes self.lane_streams c.search.index c.loop-lane.lane c.rank_by_stream-held.result c.want_each_other.result
-          (g.met.R.Ranking.sized self.ranking.now) (g.met.R.Ranking.bounded self.ranking.now) lawful self.table_as_told
+          (g.met.R.Ranking.sized self.ranking.now) (g.met.R.Ranking.bounded self.ranking.now) lawful self.names_each_lanes_stream
           (omega arith) (omega arith) c.rank_by_stream-held.ensures.is_the_streams_rank c.want_each_other.ensures.each_prefers_the_other
           ∙ c.if-want_each_other.false);
     }
@@ -42,7 +42,7 @@ returns-then-want_each_other g c =
         lane = omega arith;
         blocking =
             pair_tested x bytes self.lane_streams c.search.index c.loop-lane.lane c.rank_by_stream-held.result c.want_each_other.result
-            (g.met.R.Ranking.sized self.ranking.now) (g.met.R.Ranking.bounded self.ranking.now) lawful self.table_as_told
+            (g.met.R.Ranking.sized self.ranking.now) (g.met.R.Ranking.bounded self.ranking.now) lawful self.names_each_lanes_stream
             (omega arith) (omega arith) c.rank_by_stream-held.ensures.is_the_streams_rank c.want_each_other.ensures.each_prefers_the_other
             ∙ c.if-want_each_other.true;
         above = c.search.invariant.above;
