@@ -7,7 +7,7 @@ use Rattle.record.proofs.Lists.{place_at_lem}
 use Rattle.ranking.specs.Market.{Market, Meaning, market_of, prefers, Sized, Bounded, BoundedRanks, StreamAndLane, LawfulMarket}
 use Rattle.ranking.specs.Pairings.{LawfulPairing, lane_party, holding_of, TableOf}
 use Rattle.ranking.specs.Stability.{rank_of, held_rank, wants, is_party, holds, blocks, ranks_both, held_ranked, Stable, RankedBelow, UnblockedBelow, UnblockedBefore}
-use Rattle.ranking.proofs.Holdings.{holding_stream, holding_lane, has_stream, holding_tells, holding_mutual}
+use Rattle.ranking.proofs.Holdings.{holding_stream, holding_lane, holding_tells, holding_mutual}
 use Rattle.ranking.proofs.Markets.{rank_stream, rank_lane}
 
 -- no rank is better than itself
@@ -101,17 +101,6 @@ module _ (x : Meaning) (bytes : List ℕ) where
   pair_tested table i j held test z b p t h l read is =
       let wanted = blocks_wants (market_of x) (holding_of (market_of x) bytes) i (x.streams + j) in
       cc (wanted, rank_stream x i j h, rank_lane x j i h, stream_held i b h, lane_held table j z p t l)
-
-  -- whether a stream and the lane that it holds rank each other, by a test of the tables
-  pub stream_tested : (i : ℕ) (test : Bool) → i < x.streams → get_or bytes i 0 < x.lanes → test ≡ (is_some (x.by_stream i (get_or bytes i 0)) && is_some (x.by_lane (get_or bytes i 0) i)) → held_ranked (market_of x) (holding_of (market_of x) bytes) i ≡ test
-  stream_tested i test h l is =
-      let lane = get_or bytes i 0 in
-      let held = has_stream (market_of x) bytes i lane (h, l, refl) in
-      ap (ranks_both (market_of x) i) held ∙ cc (rank_stream x i lane h, rank_lane x lane i h)
-
--- a stream that holds nobody has nobody to rank
-pub stream_alone : (m : Market) (bytes : List ℕ) (i : ℕ) → i < m.streams → m.lanes ≤ get_or bytes i 0 → held_ranked m (holding_of m bytes) i ≡ true
-stream_alone m bytes i h l = let nobody : holding_of m bytes i ≡ None = grind (arith, nat_tests) in ap (ranks_both m i) nobody
 
 -- a lawful pairing in a lawful market is stable where no stream and no pair of a stream and a lane is
 -- against it
