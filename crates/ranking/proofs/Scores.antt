@@ -1,7 +1,6 @@
 -- Figures read one after the other.
-use Rattle.std.proofs.Common.{◌≡◌, ℕ, ◌+◌, ◌<◌, true, false, not, List, map, length, get_or, set, replicate, Some, None, sym, ap, ◌∙◌, ⊎_elim, arith}
+use Rattle.std.proofs.Common.{◌≡◌, ℕ, ◌+◌, ◌<◌, true, false, not, List, map, length, get_or, set, replicate, Some, None, sym, ap, ◌∙◌, arith}
 use Rattle.std.proofs.lemmas.List.{get_or-set_same, get_or-set_other, get_or-replicate, get_or_past, length-replicate, get_or-map}
-use Rattle.std.proofs.lemmas.Bool.{cases_lt}
 use Rattle.record.specs.Refusals.{refuse_if}
 use Rattle.record.specs.Lists.{earliest}
 use Rattle.record.proofs.Lists.{earliest_more, earliest_found}
@@ -10,10 +9,7 @@ use Rattle.ranking.specs.declared.figures.PartyFigures.{PartyFigures}
 
 -- a table of one party's figures, again and again
 pub small_same : (n : ℕ) (v : PartyFigures) → small v ≡ true → Small (replicate n v)
-small_same n v h k =
-    ⊎_elim (λ l. ap small (get_or-replicate n k v unfigured l) ∙ h)
-    (λ l. ap small (get_or_past (replicate n v) k unfigured (rw (length-replicate {A = PartyFigures} n v) l)))
-    (cases_lt k n)
+small_same n v h k = let inside = get_or-replicate n k v unfigured in let past = get_or_past (replicate n v) k unfigured in let long = length-replicate n v in grind arith
 
 pub small_set : (xs : List PartyFigures) (k : ℕ) (v : PartyFigures) → k < length xs → small v ≡ true → Small xs → Small (set xs k v)
 small_set xs k v h l s i = let same = get_or-set_same xs k v unfigured h in let other = get_or-set_other xs k i v unfigured in let kept = s i in grind arith

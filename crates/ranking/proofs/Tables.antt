@@ -1,8 +1,8 @@
 -- Tables of places.
 use Rattle.std.specs.Prelude.{◌≡◌, ℕ, ◌+◌, ◌<◌, ◌≤◌, false, cond, ◌&&◌, List, [], ◌∷◌, ◌++◌, length, get_or, take, replicate, Some, None, Option, ◌==◌, nat_lt, slice_index, slice_set, refl}
-use Rattle.std.proofs.Common.{sym, ◌∙◌, ap, subst, ⊎_elim, arith}
+use Rattle.std.proofs.Common.{sym, ◌∙◌, ap, subst, arith}
 use Rattle.std.proofs.lemmas.List.{get_or-replicate, get_or_past, length-replicate, length-set, get_or-set_same, get_or-set_other}
-use Rattle.std.proofs.lemmas.Bool.{cases_lt, ne_eqb}
+use Rattle.std.proofs.lemmas.Bool.{ne_eqb}
 use Rattle.std.proofs.lemmas.Bool.Decides.{nat_tests}
 use Rattle.std.specs.List.{AllByRecursion}
 use Rattle.record.specs.Lists.{among, place_in, next}
@@ -26,16 +26,15 @@ abbrev pub empty_table : (n m : ℕ) → List (List (Option ℕ))
 empty_table n m = replicate n (empty_row m)
 
 no_place_in_row : (m q : ℕ) → get_or (empty_row m) q None ≡ None
-no_place_in_row m q =
-    ⊎_elim (λ h. get_or-replicate {A = Option ℕ} m q None None h)
-    (λ h. get_or_past (empty_row m) q None (rw (length-replicate {A = Option ℕ} m None) h))
-    (cases_lt q m)
+no_place_in_row m q = let inside = get_or-replicate {A = Option ℕ} m q None None in let past = get_or_past (empty_row m) q None in let long = length-replicate {A = Option ℕ} m None in grind arith
 
 pub no_place : (n m p q : ℕ) → place_at (empty_table n m) p q ≡ None
 no_place n m p q =
-    ⊎_elim (λ h. ap (λ (r : List (Option ℕ)). get_or r q None) (get_or-replicate n p (empty_row m) [] h) ∙ no_place_in_row m q)
-    (λ h. ap (λ (r : List (Option ℕ)). get_or r q None) (get_or_past (empty_table n m) p [] (rw (length-replicate n (empty_row m)) h)))
-    (cases_lt p n)
+    let inside = get_or-replicate n p (empty_row m) [] in
+    let past = get_or_past (empty_table n m) p [] in
+    let long = length-replicate n (empty_row m) in
+    let row = no_place_in_row m q in
+    grind arith
 
 pub empty_whole : WholeTable (empty_table 32 16)
 empty_whole = (length-replicate 32 (empty_row 16), λ p h. ap length (get_or-replicate 32 p (empty_row 16) [] h) ∙ length-replicate {A = Option ℕ} 16 None)
