@@ -73,7 +73,7 @@ impl<R: Ranking> CheckedPairing<'_, R> {
     {
         let lanes = self.ranking.lanes();
         let mut found = None;
-        // The label ends both loops at the first pair that blocks.
+        // A labelled break, by choice: it leaves both loops at the first pair that blocks.
         'search: for (index, &has) in self.pairing.iter().enumerate() {
             let stream = index as u8;
             let held = self.ranking.rank_by_stream(stream, has);

@@ -42,7 +42,8 @@ fn places_of(choices: &[u32]) -> Places
 }
 
 impl PlaceTable {
-    // Whether there are such a stream and such a lane.
+    // Whether there are such a stream and such a lane. Both questions for a rank test this and then read a row of their own:
+    // one function for both would take the row beside the stream and the lane, and be no plainer.
     fn has(&self, stream: u8, lane: u8) -> bool
         ensures are_within_the_sizes { result ≡ (nat_lt stream self.now.streams && nat_lt lane self.now.lanes) }
     {
