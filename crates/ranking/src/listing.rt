@@ -6,10 +6,10 @@ use record::read::{Parts, read};
 use record::refusal::Refusal;
 use record::word::{high_byte, low_byte, middle_byte};
 
-/// A row for each party, streams first and then lanes, and in it the place that the party gives each of the other side.
+// A row for each party, streams first and then lanes, and in it the place that the party gives each of the other side.
 type Places = [[Option<u16>; 16]; 32];
 
-/// What a record's choices say: the sizes, and the place that each party gives each of the other side.
+// What a record's choices say: the sizes, and the place that each party gives each of the other side.
 #[derive(Clone, Copy)]
 struct PlaceTable {
     streams: u8,

@@ -9,7 +9,7 @@ use record::refusal::Refusal;
 /// The largest figure.
 pub const MOST_FIGURE: u16 = 1023;
 
-/// The figures of one side, 1 to 16 parties.
+// The figures of one side, 1 to 16 parties.
 #[derive(Clone, Copy)]
 struct Side {
     count: u8,
@@ -18,7 +18,7 @@ struct Side {
     ghost small: { Small figures },
 }
 
-/// The figures of both sides.
+// The figures of both sides.
 #[derive(Clone, Copy)]
 struct Sides {
     streams: Side,
