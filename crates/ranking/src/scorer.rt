@@ -68,8 +68,8 @@ impl Side {
         ensures figures_as_given { IfOk result (λ x. SideOf x (map figured records.now)) }
     {
         let mut figures = [PartyFigures::default(); 16];
-        for (k, record) in records.iter().enumerate() {
-            let party: PartyFigures = (*record).into();
+        for (k, &record) in records.iter().enumerate() {
+            let party: PartyFigures = record.into();
             if !party.is_small() {
                 return Err(Refusal::Figure(first + k as u8));
             }
