@@ -8,8 +8,8 @@ ghost use Rattle.archive.specs.Judging.{JudgedOf};
 
 use crate::judged::{Judged, MOST_STREAMS};
 use ranking::finder::{Finding, find};
+use ranking::listing::Listing;
 use ranking::pairing::NOBODY;
-use ranking::table::Listing;
 use record::refusal::Refusal;
 use record::word::{low_byte, middle_byte};
 

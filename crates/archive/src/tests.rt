@@ -3,9 +3,9 @@ use crate::say::{TEXT_ROOM, judged_text, refusal_text};
 use ranking::figures::{LaneFigures, StreamFigures};
 use ranking::finder::{Finding, find};
 use ranking::interface::Ranking;
+use ranking::listing::Listing;
 use ranking::pairing::check_pairing;
-use ranking::side::Scoring;
-use ranking::table::Listing;
+use ranking::scorer::Scoring;
 use record::refusal::Refusal;
 use std::test::Fail;
 

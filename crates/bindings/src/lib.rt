@@ -6,8 +6,8 @@ use board::rows::{MOST_PARTIES, Rows};
 use board::turned::Turned;
 use ranking::figures::{LaneFigures, StreamFigures};
 use ranking::interface::Ranking;
-use ranking::side::Scoring;
-use ranking::table::Listing;
+use ranking::listing::Listing;
+use ranking::scorer::Scoring;
 use record::refusal::Refusal;
 use sets::Members;
 

@@ -1,9 +1,11 @@
 -- Which pairs can block, and when a holding is stable.
-use Rattle.std.proofs.Common.{◌≡◌, ℕ, ◌+◌, ◌-◌, ◌<◌, ◌≤◌, Bool, true, false, not, ◌&&◌, eqb, ltb, ◌⊎◌, List, get_or, is_some, Some, None, Option, sym, refl, ap, ◌∙◌, inl, inr, ⊎_elim, arith}
-use Rattle.std.proofs.lemmas.Bool.{lt-ltb, le-ltb, eqb-true, cond-true, cond-false, cases_lt, cases_Bool, both_ways, and_parts}
+use Rattle.std.proofs.Common.{◌≡◌, ℕ, ◌+◌, ◌-◌, ◌<◌, ◌≤◌, Bool, true, false, ◌&&◌, ◌⊎◌, List, get_or, is_some, Some, None, Option, sym, refl, ap, ◌∙◌, inl, inr, ⊎_elim, arith, tests}
+use Rattle.std.proofs.lemmas.Bool.{le-ltb, eqb-true, cases_lt, cases_Bool, and_parts}
+use Rattle.std.proofs.Math.Bool.{and_comm}
+use Rattle.std.proofs.lemmas.Bool.Decides.{nat_tests}
 use Rattle.record.proofs.Lists.{place_at_lem}
 use Rattle.ranking.specs.Market.{Market, Meaning, market_of, prefers, Sized, Bounded, BoundedRanks, StreamAndLane, LawfulMarket}
-use Rattle.ranking.specs.Pairings.{LawfulPairing, lane_party, holding_of, stream_named, TableOf}
+use Rattle.ranking.specs.Pairings.{LawfulPairing, lane_party, holding_of, TableOf}
 use Rattle.ranking.specs.Stability.{rank_of, held_rank, wants, is_party, holds, blocks, ranks_both, held_ranked, Stable, RankedBelow, UnblockedBelow, UnblockedBefore}
 use Rattle.ranking.proofs.Holdings.{holding_stream, holding_lane, holding_tells, holding_mutual}
 use Rattle.ranking.proofs.Markets.{rank_stream, rank_lane}
@@ -15,20 +17,8 @@ prefers_same (Some k) = le-ltb k k (omega arith)
 
 -- only somebody who is ranked is wanted
 pub prefers_some : (a b : Option ℕ) → prefers a b ≡ true → (k : ℕ) × (a ≡ Some k)
-prefers_some None b e = absurd (both_ways false refl e)
+prefers_some None b e = absurd cc
 prefers_some (Some k) b e = (k, refl)
-
-and_swap : (a b : Bool) → (a && b) ≡ (b && a)
-and_swap true true = refl
-and_swap true false = refl
-and_swap false true = refl
-and_swap false false = refl
-
-without_held : (a b c d : Bool) → (a ≡ true → c ≡ false) → (not (a && b) && c && d) ≡ (c && d)
-without_held false b c d f = refl
-without_held true false c d f = refl
-without_held true true true d f = absurd (both_ways true (f refl) refl)
-without_held true true false d f = refl
 
 module _ (m : Market) (h : ℕ → Option ℕ) where
   -- nobody wants whom it holds
@@ -36,19 +26,18 @@ module _ (m : Market) (h : ℕ → Option ℕ) where
   held_unwanted p q e = go (h p) refl e
     where
       go : (o : Option ℕ) → h p ≡ o → is_party o q ≡ true → prefers (m.rank p q) (held_rank m h p) ≡ false
-      go None n e = absurd (both_ways false refl e)
+      go None n e = absurd cc
       go (Some r) n e =
           let same : r ≡ q = eqb-true r q e in
-          let held : held_rank m h p ≡ m.rank p q = ap (rank_of (m.rank p)) n ∙ ap (m.rank p) same in
-          ap (prefers (m.rank p q)) held ∙ prefers_same (m.rank p q)
+          ap (prefers (m.rank p q)) (ap (rank_of (m.rank p)) n ∙ ap (m.rank p) same) ∙ prefers_same (m.rank p q)
 
   -- two parties block where each wants the other
   pub blocks_wants : (p q : ℕ) → blocks m h p q ≡ (wants m h p q && wants m h q p)
-  blocks_wants p q = without_held (holds h p q) (holds h q p) (wants m h p q) (wants m h q p) (held_unwanted p q)
+  blocks_wants p q = let unwanted = held_unwanted p q in grind (arith, tests)
 
   -- it does not matter which of two parties comes first
   pub blocks_swap : (p q : ℕ) → blocks m h p q ≡ blocks m h q p
-  blocks_swap p q = blocks_wants p q ∙ and_swap (wants m h p q) (wants m h q p) ∙ sym (blocks_wants q p)
+  blocks_swap p q = blocks_wants p q ∙ and_comm (wants m h p q) (wants m h q p) ∙ sym (blocks_wants q p)
 
   -- where only a stream and a lane rank each other, and a holding is mutual and has a stream, it is
   -- enough to look at the streams, and at the pairs of a stream and a lane
@@ -60,7 +49,7 @@ module _ (m : Market) (h : ℕ → Option ℕ) where
       ranked_by p None e = ap (ranks_both m p) e
       ranked_by p (Some q) e = ⊎_elim
           (λ l. ranks p l)
-          (λ l. ap (ranks_both m p) e ∙ and_swap (is_some (m.rank p q)) (is_some (m.rank q p)) ∙ sym (ap (ranks_both m q) (returned p q e)) ∙ ranks q l)
+          (λ l. ap (ranks_both m p) e ∙ and_comm (is_some (m.rank p q)) (is_some (m.rank q p)) ∙ sym (ap (ranks_both m q) (returned p q e)) ∙ ranks q l)
           (sides p q e)
 
       pair : (p q : ℕ) → StreamAndLane m p q → blocks m h p q ≡ false
@@ -89,64 +78,29 @@ no_rank rows columns table i j b h = go (table i j) refl
 module _ (x : Meaning) (bytes : List ℕ) where
   -- the rank that a stream gives the lane that its byte names
   pub stream_held : (i : ℕ) → BoundedRanks x → i < x.streams → held_rank (market_of x) (holding_of (market_of x) bytes) i ≡ x.by_stream i (get_or bytes i 0)
-  stream_held i b h = ap (rank_of ((market_of x).rank i)) (holding_stream (market_of x) bytes i h) ∙ ⊎_elim named nobody (cases_lt (get_or bytes i 0) x.lanes)
-    where
-      named : get_or bytes i 0 < x.lanes → rank_of ((market_of x).rank i) (lane_party (market_of x) (get_or bytes i 0)) ≡ x.by_stream i (get_or bytes i 0)
-      named l = ap (rank_of ((market_of x).rank i)) (cond-true (ltb (get_or bytes i 0) x.lanes) _ _ (lt-ltb (get_or bytes i 0) x.lanes l)) ∙ rank_stream x i (get_or bytes i 0) h
-
-      nobody : x.lanes ≤ get_or bytes i 0 → rank_of ((market_of x).rank i) (lane_party (market_of x) (get_or bytes i 0)) ≡ x.by_stream i (get_or bytes i 0)
-      nobody l =
-          ap (rank_of ((market_of x).rank i)) (cond-false (ltb (get_or bytes i 0) x.lanes) _ _ (le-ltb (get_or bytes i 0) x.lanes l))
-          ∙ sym (no_rank x.streams x.lanes x.by_stream i (get_or bytes i 0) b.0 l)
+  stream_held i b h =
+      let rank = (market_of x).rank i in
+      let byte = get_or bytes i 0 in
+      ap (rank_of rank) (holding_stream (market_of x) bytes i h) ∙ ⊎_elim
+      (λ l. let named : lane_party (market_of x) byte ≡ Some (x.streams + byte) = grind (arith, nat_tests) in ap (rank_of rank) named ∙ rank_stream x i byte h)
+      (λ l. let nobody : lane_party (market_of x) byte ≡ None = grind (arith, nat_tests) in ap (rank_of rank) nobody ∙ sym (no_rank x.streams x.lanes x.by_stream i byte b.0 l))
+      (cases_lt byte x.lanes)
 
   -- the rank that a lane gives the stream that the table names for it
-  pub lane_held : (table : List ℕ) (j : ℕ) → Sized x → BoundedRanks x → LawfulPairing (market_of x) bytes → TableOf bytes table → j < x.lanes → held_rank (market_of x) (holding_of (market_of x) bytes) (x.streams + j) ≡ x.by_lane j (get_or table j 0)
-  lane_held table j z b p t h = ap (rank_of ((market_of x).rank (x.streams + j))) (holding_lane (market_of x) bytes j h ∙ sym (t.each j (omega arith))) ∙ ⊎_elim nobody named (cases_Bool (eqb (get_or table j 0) 255))
+  pub lane_held : (table : List (Option ℕ)) (j : ℕ) → Sized x → LawfulPairing (market_of x) bytes → TableOf bytes table → j < x.lanes → held_rank (market_of x) (holding_of (market_of x) bytes) (x.streams + j) ≡ rank_of (x.by_lane j) (get_or table j None)
+  lane_held table j z p t h = ap (rank_of ((market_of x).rank (x.streams + j))) (holding_lane (market_of x) bytes j h ∙ sym (t.1 j (omega arith))) ∙ go (get_or table j None) refl
     where
-      nobody : eqb (get_or table j 0) 255 ≡ true → rank_of ((market_of x).rank (x.streams + j)) (stream_named (get_or table j 0)) ≡ x.by_lane j (get_or table j 0)
-      nobody e =
-          ap (rank_of ((market_of x).rank (x.streams + j))) (cond-true (eqb (get_or table j 0) 255) _ _ e)
-          ∙ sym (no_rank x.lanes x.streams x.by_lane j (get_or table j 0) b.1 (omega (arith, eqb-true (get_or table j 0) 255 e)))
+      go : (o : Option ℕ) → get_or table j None ≡ o → rank_of ((market_of x).rank (x.streams + j)) o ≡ rank_of (x.by_lane j) o
+      go None e = refl
+      go (Some k) e =
+          let at = place_at_lem j bytes k (sym (t.1 j (omega arith)) ∙ e) in
+          rank_lane x j k (omega (arith, at.0, p.count))
 
-      named : eqb (get_or table j 0) 255 ≡ false → rank_of ((market_of x).rank (x.streams + j)) (stream_named (get_or table j 0)) ≡ x.by_lane j (get_or table j 0)
-      named e =
-          let n : stream_named (get_or table j 0) ≡ Some (get_or table j 0) = cond-false (eqb (get_or table j 0) 255) _ _ e in
-          let at = place_at_lem j bytes (get_or table j 0) (sym (t.each j (omega arith)) ∙ n) in
-          ap (rank_of ((market_of x).rank (x.streams + j))) n ∙ rank_lane x j (get_or table j 0) (omega (arith, at.0, p.count))
-
-  -- when a stream and a lane block, by the tables
-  pub pair_blocks : (table : List ℕ) (i j : ℕ) → Sized x → BoundedRanks x → LawfulPairing (market_of x) bytes → TableOf bytes table → i < x.streams → j < x.lanes → blocks (market_of x) (holding_of (market_of x) bytes) i (x.streams + j) ≡ (prefers (x.by_stream i j) (x.by_stream i (get_or bytes i 0)) && prefers (x.by_lane j i) (x.by_lane j (get_or table j 0)))
-  pair_blocks table i j z b p t h l =
-      let m = market_of x in
-      let held = holding_of m bytes in
-      let q = x.streams + j in
-      blocks_wants m held i q
-      ∙ ap (λ o. prefers o (held_rank m held i) && wants m held q i) (rank_stream x i j h)
-      ∙ ap (λ o. prefers (x.by_stream i j) o && wants m held q i) (stream_held i b h)
-      ∙ ap (λ o. prefers (x.by_stream i j) (x.by_stream i (get_or bytes i 0)) && prefers o (held_rank m held q)) (rank_lane x j i h)
-      ∙ ap (λ o. prefers (x.by_stream i j) (x.by_stream i (get_or bytes i 0)) && prefers (x.by_lane j i) o) (lane_held table j z b p t l)
-
-  -- the same of a test that compared these ranks, with the stream's own rank read before
-  pub pair_tested : (table : List ℕ) (i j : ℕ) (held : Option ℕ) (test : Bool) → Sized x → BoundedRanks x → LawfulPairing (market_of x) bytes → TableOf bytes table → i < x.streams → j < x.lanes → held ≡ x.by_stream i (get_or bytes i 0) → test ≡ (prefers (x.by_stream i j) held && prefers (x.by_lane j i) (x.by_lane j (get_or table j 0))) → blocks (market_of x) (holding_of (market_of x) bytes) i (x.streams + j) ≡ test
+  -- when a stream and a lane block, by a test that compared their ranks in the tables, with the stream's own rank read before
+  pub pair_tested : (table : List (Option ℕ)) (i j : ℕ) (held : Option ℕ) (test : Bool) → Sized x → BoundedRanks x → LawfulPairing (market_of x) bytes → TableOf bytes table → i < x.streams → j < x.lanes → held ≡ x.by_stream i (get_or bytes i 0) → test ≡ (prefers (x.by_stream i j) held && prefers (x.by_lane j i) (rank_of (x.by_lane j) (get_or table j None))) → blocks (market_of x) (holding_of (market_of x) bytes) i (x.streams + j) ≡ test
   pair_tested table i j held test z b p t h l read is =
-      pair_blocks table i j z b p t h l
-      ∙ ap (λ o. prefers (x.by_stream i j) o && prefers (x.by_lane j i) (x.by_lane j (get_or table j 0))) (sym read)
-      ∙ sym is
-
-  -- whether a stream and the lane that it holds rank each other, by a test of the tables
-  pub stream_tested : (i : ℕ) (test : Bool) → i < x.streams → get_or bytes i 0 < x.lanes → test ≡ (is_some (x.by_stream i (get_or bytes i 0)) && is_some (x.by_lane (get_or bytes i 0) i)) → held_ranked (market_of x) (holding_of (market_of x) bytes) i ≡ test
-  stream_tested i test h l is =
-      let m = market_of x in
-      let lane = get_or bytes i 0 in
-      ap (ranks_both m i) (holding_stream m bytes i h ∙ cond-true (ltb lane x.lanes) _ _ (lt-ltb lane x.lanes l))
-      ∙ ap (λ o. is_some o && is_some (m.rank (x.streams + lane) i)) (rank_stream x i lane h)
-      ∙ ap (λ o. is_some (x.by_stream i lane) && is_some o) (rank_lane x lane i h)
-      ∙ sym is
-
--- a stream that holds nobody has nobody to rank
-pub stream_alone : (m : Market) (bytes : List ℕ) (i : ℕ) → i < m.streams → m.lanes ≤ get_or bytes i 0 → held_ranked m (holding_of m bytes) i ≡ true
-stream_alone m bytes i h l =
-    ap (ranks_both m i) (holding_stream m bytes i h ∙ cond-false (ltb (get_or bytes i 0) m.lanes) _ _ (le-ltb (get_or bytes i 0) m.lanes l))
+      let wanted = blocks_wants (market_of x) (holding_of (market_of x) bytes) i (x.streams + j) in
+      cc (wanted, rank_stream x i j h, rank_lane x j i h, stream_held i b h, lane_held table j z p t l)
 
 -- a lawful pairing in a lawful market is stable where no stream and no pair of a stream and a lane is
 -- against it

@@ -1,117 +1,83 @@
 -- What a pairing that is not refused keeps, and the table of the lanes' streams.
-use Rattle.std.proofs.Common.{◌≡◌, ℕ, ◌+◌, ◌<◌, ◌≤◌, Bool, true, false, cond, not, eqb, ltb, ◌⊎◌, List, [], ◌∷◌, ◌++◌, length, get_or, take, set, is_some, Some, None, Option, sym, refl, ap, ◌∙◌, inl, inr, arith}
+use Rattle.std.proofs.Common.{◌≡◌, ℕ, ◌+◌, ◌<◌, ◌≤◌, true, false, not, eqb, ◌⊎◌, List, [], ◌∷◌, ◌++◌, length, get_or, take, set, is_some, Some, None, Option, sym, refl, ap, ◌∙◌, inl, inr, ⊎_elim, arith}
 use Rattle.std.proofs.lemmas.List.{take_more, get_or-take, length-take-le, length-set, get_or-set_same, get_or-set_other}
-use Rattle.std.proofs.lemmas.Bool.{eq-eqb, ne_eqb, eqb-true, lt-ltb, le-ltb, cond-true, cond-false, cases_eq, cases_lt, cases_order, both_ways, not-false}
-use Rattle.record.specs.Refusals.{or_else, refuse_if}
+use Rattle.std.proofs.lemmas.Bool.{eq-eqb, ne_eqb, cases_eq, cases_order, both_ways}
+use Rattle.std.proofs.lemmas.Bool.Decides.{nat_tests}
+use Rattle.record.specs.Refusals.{refuse_if}
 use Rattle.record.specs.Lists.{among, place_in, earliest}
 use Rattle.record.proofs.Lists.{among_place, among_from, place_at_lem, place_push_other, place_push_new, earliest_more, earliest_found, earliest_none, none_earliest}
 use Rattle.ranking.specs.Market.{Market}
-use Rattle.ranking.specs.Pairings.{wrong_at, stream_fault, pairing_fault, LawfulPairing, stream_named, TableOf}
-
--- a byte that is right refuses nothing, and one that is wrong refuses
-pub no_stream_fault : (m : Market) (bytes : List ℕ) (i : ℕ) → wrong_at m bytes i ≡ false → stream_fault m bytes i ≡ None
-no_stream_fault m bytes i e = ap (λ b. refuse_if b (8, i)) e
-
-pub stream_fault_lem : (m : Market) (bytes : List ℕ) (i : ℕ) → wrong_at m bytes i ≡ true → stream_fault m bytes i ≡ Some (8, i)
-stream_fault_lem m bytes i e = ap (λ b. refuse_if b (8, i)) e
+use Rattle.ranking.specs.Pairings.{wrong_at, stream_fault, pairing_fault, LawfulPairing, TableOf}
 
 -- when the byte of a stream is wrong, by what it names
 pub wrong_lane : (m : Market) (bytes : List ℕ) (i : ℕ) → get_or bytes i 0 < m.lanes → wrong_at m bytes i ≡ among (get_or bytes i 0) (take i bytes)
-wrong_lane m bytes i h = cond-true (ltb (get_or bytes i 0) m.lanes) _ _ (lt-ltb (get_or bytes i 0) m.lanes h)
+wrong_lane m bytes i h = grind (arith, nat_tests)
 
 pub wrong_none : (m : Market) (bytes : List ℕ) (i : ℕ) → m.lanes ≤ get_or bytes i 0 → wrong_at m bytes i ≡ not (eqb (get_or bytes i 0) 255)
-wrong_none m bytes i h = cond-false (ltb (get_or bytes i 0) m.lanes) _ _ (le-ltb (get_or bytes i 0) m.lanes h)
+wrong_none m bytes i h = grind (arith, nat_tests)
 
 -- a lane is among the bytes where its place in the table names a stream
-pub table_among : (bytes table : List ℕ) (j : ℕ) → TableOf bytes table → j < 16 → among j bytes ≡ not (eqb (get_or table j 0) 255)
-table_among bytes table j t h = among_place j bytes ∙ ap is_some (sym (t.each j h)) ∙ go (eqb (get_or table j 0) 255)
-  where
-    go : (b : Bool) → is_some (cond b None (Some (get_or table j 0))) ≡ not b
-    go true = refl
-    go false = refl
+pub table_among : (bytes : List ℕ) (table : List (Option ℕ)) (j : ℕ) → TableOf bytes table → j < 16 → among j bytes ≡ is_some (get_or table j None)
+table_among bytes table j t h = among_place j bytes ∙ ap is_some (sym (t.1 j h))
 
 -- one more stream, whose byte names a lane that nobody had
-pub table_push : (xs table : List ℕ) (lane : ℕ) → TableOf xs table → lane < 16 → length xs < 255 → get_or table lane 0 ≡ 255 → TableOf (xs ++ lane ∷ []) (set table lane (length xs))
-table_push xs table lane t h l free = record { count = length-set table lane (length xs) ∙ t.count; each = λ j b. go j b (cases_eq j lane) }
+pub table_push : (xs : List ℕ) (table : List (Option ℕ)) (lane : ℕ) → TableOf xs table → lane < 16 → get_or table lane None ≡ None → TableOf (xs ++ lane ∷ []) (set table lane (Some (length xs)))
+table_push xs table lane t h free = (length-set table lane (Some (length xs)) ∙ t.0, λ j b. go j b (cases_eq j lane))
   where
-    empty : place_in lane xs ≡ None
-    empty = sym (t.each lane h) ∙ ap stream_named free
-
-    at_lane : stream_named (get_or (set table lane (length xs)) lane 0) ≡ place_in lane (xs ++ lane ∷ [])
-    at_lane =
-        let b : lane < length table = rw t.count h in
-        let n : length xs ≡ 255 → ⊥ = λ e. omega arith in
-        ap stream_named (get_or-set_same table lane (length xs) 0 b)
-        ∙ cond-false (eqb (length xs) 255) None (Some (length xs)) (ne_eqb (length xs) 255 n)
-        ∙ sym (place_push_new lane xs empty)
-
-    go : (j : ℕ) → j < 16 → (j ≡ lane) ⊎ (j ≡ lane → ⊥) → stream_named (get_or (set table lane (length xs)) j 0) ≡ place_in j (xs ++ lane ∷ [])
-    go j b (inl e) = rw e at_lane
-    go j b (inr n) = ap stream_named (get_or-set_other table lane j (length xs) 0 n) ∙ t.each j b ∙ sym (place_push_other j lane xs (ne_eqb j lane n))
+    go : (j : ℕ) → j < 16 → (j ≡ lane) ⊎ (j ≡ lane → ⊥) → get_or (set table lane (Some (length xs))) j None ≡ place_in j (xs ++ lane ∷ [])
+    go j b (inl e) = rw e (get_or-set_same table lane (Some (length xs)) None (omega (arith, t.0)) ∙ sym (place_push_new lane xs (sym (t.1 lane h) ∙ free)))
+    go j b (inr n) = get_or-set_other table lane j (Some (length xs)) None n ∙ t.1 j b ∙ sym (place_push_other j lane xs (ne_eqb j lane n))
 
 -- one more stream, whose byte names no lane
-pub table_skip : (xs table : List ℕ) (byte : ℕ) → TableOf xs table → 16 ≤ byte → TableOf (xs ++ byte ∷ []) table
-table_skip xs table byte t h =
-    record { count = t.count; each = λ j b. t.each j b ∙ sym (place_push_other j byte xs (ne_eqb j byte (λ e. omega arith))) }
+pub table_skip : (xs : List ℕ) (table : List (Option ℕ)) (byte : ℕ) → TableOf xs table → 16 ≤ byte → TableOf (xs ++ byte ∷ []) table
+table_skip xs table byte t h = (t.0, λ j b. t.1 j b ∙ sym (place_push_other j byte xs (ne_eqb j byte (λ e. omega arith))))
 
 -- the pairing is refused at the first stream whose byte is wrong
 pub fault_at_lem : (m : Market) (bytes : List ℕ) (i : ℕ) → length bytes ≡ m.streams → i < m.streams → earliest (stream_fault m bytes) i ≡ None → wrong_at m bytes i ≡ true → pairing_fault m bytes ≡ Some (8, i)
 fault_at_lem m bytes i n h e w =
-    ap (λ b. or_else (refuse_if (not b) (8, 255)) (earliest (stream_fault m bytes) m.streams)) (eq-eqb (length bytes) m.streams n)
-    ∙ earliest_found (stream_fault m bytes) i m.streams (8, i) h e (stream_fault_lem m bytes i w)
+    let found = earliest_found (stream_fault m bytes) i m.streams (8, i) h e (ap (λ b. refuse_if b (8, i)) w) in
+    grind (arith, nat_tests)
 
 -- the pairing is not refused where no stream's byte is wrong
 pub fault_none : (m : Market) (bytes : List ℕ) → length bytes ≡ m.streams → earliest (stream_fault m bytes) m.streams ≡ None → pairing_fault m bytes ≡ None
-fault_none m bytes n e =
-    ap (λ b. or_else (refuse_if (not b) (8, 255)) (earliest (stream_fault m bytes) m.streams)) (eq-eqb (length bytes) m.streams n) ∙ e
+fault_none m bytes n e = grind (arith, nat_tests)
 
 -- what is known once the streams below i are read
-abbrev pub ReadTo : (m : Market) (bytes : List ℕ) (i : ℕ) (table : List ℕ) → Type 0
+abbrev pub ReadTo : (m : Market) (bytes : List ℕ) (i : ℕ) (table : List (Option ℕ)) → Type 0
 ReadTo m bytes i table = (earliest (stream_fault m bytes) i ≡ None) × TableOf (take i bytes) table
 
-pub read_lane : (m : Market) (bytes : List ℕ) (i : ℕ) (table : List ℕ) → m.lanes ≤ 16 → i < length bytes → i < 255 → get_or bytes i 0 < m.lanes → get_or table (get_or bytes i 0) 0 ≡ 255 → ReadTo m bytes i table → ReadTo m bytes (i + 1) (set table (get_or bytes i 0) i)
-read_lane m bytes i table l h k b free r =
+pub read_lane : (m : Market) (bytes : List ℕ) (i : ℕ) (table : List (Option ℕ)) → m.lanes ≤ 16 → i < length bytes → get_or bytes i 0 < m.lanes → get_or table (get_or bytes i 0) None ≡ None → ReadTo m bytes i table → ReadTo m bytes (i + 1) (set table (get_or bytes i 0) (Some i))
+read_lane m bytes i table l h b free r =
     let lane = get_or bytes i 0 in
     let n : length (take i bytes) ≡ i = length-take-le i bytes (omega arith) in
-    let a : among lane (take i bytes) ≡ false = table_among (take i bytes) table lane r.1 (omega arith) ∙ ap not (eq-eqb (get_or table lane 0) 255 free) in
-    let t = table_push (take i bytes) table lane r.1 (omega arith) (omega arith) free in
-    let u : TableOf (take i bytes ++ lane ∷ []) (set table lane i) = rw n at t in (
-      earliest_more (stream_fault m bytes) i r.0 ∙ no_stream_fault m bytes i (wrong_lane m bytes i b ∙ a),
+    let a : among lane (take i bytes) ≡ false = table_among (take i bytes) table lane r.1 (omega arith) ∙ ap is_some free in
+    let u : TableOf (take i bytes ++ lane ∷ []) (set table lane (Some i)) = rw n at (table_push (take i bytes) table lane r.1 (omega arith) free) in (
+      earliest_more (stream_fault m bytes) i r.0 ∙ ap (λ w. refuse_if w (8, i)) (wrong_lane m bytes i b ∙ a),
       rw (take_more bytes i 0 h) u,
     )
 
-pub read_nobody : (m : Market) (bytes : List ℕ) (i : ℕ) (table : List ℕ) → m.lanes ≤ 16 → i < length bytes → get_or bytes i 0 ≡ 255 → ReadTo m bytes i table → ReadTo m bytes (i + 1) table
+pub read_nobody : (m : Market) (bytes : List ℕ) (i : ℕ) (table : List (Option ℕ)) → m.lanes ≤ 16 → i < length bytes → get_or bytes i 0 ≡ 255 → ReadTo m bytes i table → ReadTo m bytes (i + 1) table
 read_nobody m bytes i table l h e r = (
-  earliest_more (stream_fault m bytes) i r.0 ∙ no_stream_fault m bytes i (wrong_none m bytes i (omega arith) ∙ ap not (eq-eqb (get_or bytes i 0) 255 e)),
+  earliest_more (stream_fault m bytes) i r.0 ∙ ap (λ w. refuse_if w (8, i)) (wrong_none m bytes i (omega arith) ∙ ap not (eq-eqb (get_or bytes i 0) 255 e)),
   rw (take_more bytes i 0 h) (table_skip (take i bytes) table (get_or bytes i 0) r.1 (omega arith)),
 )
 
-refuse_none : (b : Bool) (code : ℕ × ℕ) → refuse_if b code ≡ None → b ≡ false
-refuse_none true code e = cc
-refuse_none false code e = refl
-
--- where nothing is refused, the test does not hold, and what comes after it refuses nothing
-none_refused : (b : Bool) (code : ℕ × ℕ) (o : Option (ℕ × ℕ)) → or_else (refuse_if b code) o ≡ None → (b ≡ false) × (o ≡ None)
-none_refused true code o e = absurd (let z : ◌≡◌ {A = ℕ} 0 1 = cc in omega arith)
-none_refused false code o e = (refl, e)
-
 -- a pairing that is not refused is lawful
 pub lawful_from_fault : (m : Market) (bytes : List ℕ) → pairing_fault m bytes ≡ None → LawfulPairing m bytes
-lawful_from_fault m bytes e =
-    record { count = many; named = λ i h. names i h (cases_lt (get_or bytes i 0) m.lanes); once = λ i j a b l q. single i j a b l q (cases_order i j) }
+lawful_from_fault m bytes e = record {
+  count = many;
+  named = λ i h. let fine = right i h in grind (arith, nat_tests);
+  once = λ i j a b l q. ⊎_elim (λ s. s) (⊎_elim (λ low. absurd (earlier i j low b (omega arith) q)) (λ low. absurd (earlier j i low a l (sym q)))) (cases_order i j);
+}
   where
-    parts : (not (eqb (length bytes) m.streams) ≡ false) × (earliest (stream_fault m bytes) m.streams ≡ None)
-    parts = none_refused (not (eqb (length bytes) m.streams)) (8, 255) (earliest (stream_fault m bytes) m.streams) e
-
     many : length bytes ≡ m.streams
-    many = eqb-true (length bytes) m.streams (not-false (eqb (length bytes) m.streams) parts.0)
+    many = grind (arith, nat_tests)
+
+    fine : earliest (stream_fault m bytes) m.streams ≡ None
+    fine = grind (arith, nat_tests)
 
     right : (i : ℕ) → i < m.streams → wrong_at m bytes i ≡ false
-    right i h = refuse_none (wrong_at m bytes i) (8, i) (earliest_none (stream_fault m bytes) m.streams parts.1 i h)
-
-    names : (i : ℕ) → i < m.streams → (get_or bytes i 0 < m.lanes) ⊎ (m.lanes ≤ get_or bytes i 0) → (get_or bytes i 0 < m.lanes) ⊎ (get_or bytes i 0 ≡ 255)
-    names i h (inl l) = inl l
-    names i h (inr l) = inr (eqb-true (get_or bytes i 0) 255 (not-false (eqb (get_or bytes i 0) 255) (sym (wrong_none m bytes i l) ∙ right i h)))
+    right i h = let none = earliest_none (stream_fault m bytes) m.streams fine i h in grind (arith, nat_tests)
 
     earlier : (i j : ℕ) → i < j → j < m.streams → get_or bytes j 0 < m.lanes → get_or bytes i 0 ≡ get_or bytes j 0 → ⊥
     earlier i j l h b q =
@@ -119,15 +85,10 @@ lawful_from_fault m bytes e =
         both_ways (among (get_or bytes j 0) (take j bytes)) (sym (wrong_lane m bytes j b) ∙ right j h)
         (among_from (get_or bytes j 0) (take j bytes) i n (get_or-take j bytes i 0 l ∙ q))
 
-    single : (i j : ℕ) → i < m.streams → j < m.streams → get_or bytes i 0 < m.lanes → get_or bytes i 0 ≡ get_or bytes j 0 → (i ≡ j) ⊎ ((i < j) ⊎ (j < i)) → i ≡ j
-    single i j a b l q (inl same) = same
-    single i j a b l q (inr (inl low)) = absurd (earlier i j low b (omega arith) q)
-    single i j a b l q (inr (inr low)) = absurd (earlier j i low a l (sym q))
-
 -- a lawful pairing is not refused
 pub fault_from_lawful : (m : Market) (bytes : List ℕ) → LawfulPairing m bytes → pairing_fault m bytes ≡ None
 fault_from_lawful m bytes p =
-    fault_none m bytes p.count (none_earliest (stream_fault m bytes) m.streams (λ i h. no_stream_fault m bytes i (right i h (cases_lt (get_or bytes i 0) m.lanes) (p.named i h))))
+    fault_none m bytes p.count (none_earliest (stream_fault m bytes) m.streams (λ i h. ap (λ w. refuse_if w (8, i)) (right i h (p.named i h))))
   where
     free : (i : ℕ) → i < m.streams → get_or bytes i 0 < m.lanes → (o : Option ℕ) → place_in (get_or bytes i 0) (take i bytes) ≡ o → is_some o ≡ false
     free i h l None e = refl
@@ -138,7 +99,8 @@ fault_from_lawful m bytes p =
         let q : get_or bytes k 0 ≡ get_or bytes i 0 = sym (get_or-take i bytes k 0 b) ∙ at.1 in
         absurd (omega (arith, p.once k i (omega arith) h (omega arith) q))
 
-    right : (i : ℕ) → i < m.streams → (get_or bytes i 0 < m.lanes) ⊎ (m.lanes ≤ get_or bytes i 0) → (get_or bytes i 0 < m.lanes) ⊎ (get_or bytes i 0 ≡ 255) → wrong_at m bytes i ≡ false
-    right i h (inl l) _ = wrong_lane m bytes i l ∙ among_place (get_or bytes i 0) (take i bytes) ∙ free i h l (place_in (get_or bytes i 0) (take i bytes)) refl
-    right i h (inr l) (inl m) = absurd (omega arith)
-    right i h (inr l) (inr e) = wrong_none m bytes i l ∙ ap not (eq-eqb (get_or bytes i 0) 255 e)
+    right : (i : ℕ) → i < m.streams → (get_or bytes i 0 < m.lanes) ⊎ (get_or bytes i 0 ≡ 255) → wrong_at m bytes i ≡ false
+    right i h named =
+        let fine : get_or bytes i 0 < m.lanes → among (get_or bytes i 0) (take i bytes) ≡ false =
+        λ l. among_place (get_or bytes i 0) (take i bytes) ∙ free i h l (place_in (get_or bytes i 0) (take i bytes)) refl in
+        grind (arith, nat_tests)

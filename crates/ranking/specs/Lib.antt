@@ -5,4 +5,3 @@ pub mod Pairings
 pub mod Places
 pub mod Scorings
 pub mod Stability
-pub mod TableLaws

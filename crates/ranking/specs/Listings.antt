@@ -1,15 +1,16 @@
 -- A listing: a ranking whose ranks are the places of a record.
-use Rattle.std.specs.Prelude.{ℕ, ◌+◌, Bool, cond, List, None, Option, nat_lt}
+use Rattle.std.specs.Prelude.{ℕ, ◌+◌, Bool, cond, List, Some, None, Option, nat_lt}
 use Rattle.record.specs.Lists.{place_in}
 use Rattle.record.specs.Refusals.{refuse_if, or_else}
 use Rattle.record.specs.Format.{Content}
 use Rattle.record.specs.Faults.{record_fault}
 use Rattle.ranking.specs.Market.{Meaning}
 use Rattle.ranking.specs.Places.{place_at}
-use Rattle.ranking.specs.declared.table.Listing.{Listing}
+use Rattle.ranking.specs.declared.listing.PlaceTable.{PlaceTable}
+use Rattle.ranking.specs.declared.listing.Listing.{Listing}
 
 -- what a table of places means, given the sizes: streams have the first rows, and lane j has row s + j
-abbrev pub table_meaning : (streams lanes : ℕ) → List ℕ → Meaning
+abbrev pub table_meaning : (streams lanes : ℕ) → List (List (Option ℕ)) → Meaning
 table_meaning s g places = record {
   streams = s;
   lanes = g;
@@ -17,13 +18,18 @@ table_meaning s g places = record {
   by_lane = λ j i. cond (nat_lt j g) (cond (nat_lt i s) (place_at places (s + j) i) None) None;
 }
 
--- what a listing means
-abbrev pub listed : Listing → Meaning
-listed x = table_meaning x.streams x.lanes x.places
-
 -- what a new listing means: one stream, one lane, and nobody ranks anybody
 abbrev pub unlisted : Meaning
 unlisted = record { streams = 1; lanes = 1; by_stream = λ i j. None; by_lane = λ j i. None }
+
+-- what a listing's table means, where it has one
+abbrev pub filled_meaning : Option PlaceTable → Meaning
+filled_meaning None = unlisted
+filled_meaning (Some t) = table_meaning t.sizes.streams t.sizes.lanes t.places
+
+-- what a listing means
+abbrev pub listed : Listing → Meaning
+listed x = filled_meaning x.table
 
 -- what a content's choices mean: a rank is the place among the parties that the ranker names, and lane j is party s + j
 abbrev pub content_meaning : Content → Meaning

@@ -1,6 +1,6 @@
 -- A pairing of a market's streams and lanes: a list of bytes, for each stream the number of its lane or
 -- 255 for nobody, with no lane twice.
-use Rattle.std.specs.Prelude.{◌≡◌, ℕ, ◌+◌, ◌-◌, ◌<◌, Bool, cond, not, ◌⊎◌, List, length, take, Some, None, Option, ◌==◌, nat_lt, slice_index}
+use Rattle.std.specs.Prelude.{◌≡◌, ℕ, ◌+◌, ◌-◌, ◌<◌, Bool, cond, not, ◌⊎◌, List, length, take, Some, None, Option, ◌==◌, nat_lt, slice_index, slice_index_or}
 use Rattle.record.specs.Refusals.{or_else, refuse_if}
 use Rattle.record.specs.Lists.{among, place_in, earliest}
 use Rattle.ranking.specs.Market.{Market}
@@ -40,12 +40,6 @@ holding_of m bytes p =
     cond (nat_lt p m.streams) (lane_party m (slice_index bytes p))
     (cond (nat_lt (p - m.streams) m.lanes) (place_in (p - m.streams) bytes) None)
 
--- the stream that a byte of a table of the lanes' streams names: 255 is nobody
-abbrev pub stream_named : ℕ → Option ℕ
-stream_named byte = cond (byte == 255) None (Some byte)
-
--- a table of the lanes' streams is right for a pairing: 16 bytes, and at each lane's place the stream
--- that has the lane
-pub record TableOf (bytes table : List ℕ) : Type 0 where
-  pub count : length table ≡ 16
-  pub each : (j : ℕ) → j < 16 → stream_named (slice_index table j) ≡ place_in j bytes
+-- a table of the lanes' streams is right for a pairing: 16 places, and at each lane's the stream that has the lane, or none
+abbrev pub TableOf : (bytes : List ℕ) (table : List (Option ℕ)) → Type 0
+TableOf bytes table = (length table ≡ 16) × ((j : ℕ) → j < 16 → slice_index_or table j None ≡ place_in j bytes)

@@ -1,5 +1,5 @@
 ghost use Rattle.std.specs.Prelude.{◌≡◌};
-ghost use Rattle.ranking.specs.Figures.{Figured};
+ghost use Rattle.ranking.specs.Figures.{stream_figured, lane_figured};
 
 /// The figures of a stream: its rate, the wear that it wishes of a lane, and how far from its wish it goes.
 #[derive(Clone, Copy)]
@@ -17,52 +17,35 @@ pub struct LaneFigures {
     pub reach: u16,
 }
 
-/// The figures of a party of either side.
-pub trait Figures {
-    /// Its own figure, its wish and its reach.
-    ghost figured: { Self → Figured };
-
-    /// A stream's rate, a lane's wear.
-    fn own(&self) -> u16
-        ensures is_its_own { result ≡ (figured self.now).own };
-
-    /// What it wishes of the other side.
-    fn wish(&self) -> u16
-        ensures is_its_wish { result ≡ (figured self.now).wish };
-
-    /// How far from its wish it goes.
-    fn reach(&self) -> u16
-        ensures is_its_reach { result ≡ (figured self.now).reach };
+/// The figures of a party of either side: its own, a stream's rate or a lane's wear, its wish of the other side's,
+/// and how far from its wish it goes.
+#[derive(Clone, Copy, Default)]
+pub struct PartyFigures {
+    pub own: u16,
+    pub wish: u16,
+    pub reach: u16,
 }
 
-impl Figures for StreamFigures {
-    ghost figured = { λ x. record { own = x.rate; wish = x.wish; reach = x.reach } };
+impl From<StreamFigures> for PartyFigures {
+    ghost from_gives = { λ x y. y ≡ stream_figured x };
 
-    fn own(&self) -> u16 {
-        self.rate
-    }
-
-    fn wish(&self) -> u16 {
-        self.wish
-    }
-
-    fn reach(&self) -> u16 {
-        self.reach
+    fn from(stream: StreamFigures) -> PartyFigures {
+        PartyFigures {
+            own: stream.rate,
+            wish: stream.wish,
+            reach: stream.reach,
+        }
     }
 }
 
-impl Figures for LaneFigures {
-    ghost figured = { λ x. record { own = x.wear; wish = x.wish; reach = x.reach } };
+impl From<LaneFigures> for PartyFigures {
+    ghost from_gives = { λ x y. y ≡ lane_figured x };
 
-    fn own(&self) -> u16 {
-        self.wear
-    }
-
-    fn wish(&self) -> u16 {
-        self.wish
-    }
-
-    fn reach(&self) -> u16 {
-        self.reach
+    fn from(lane: LaneFigures) -> PartyFigures {
+        PartyFigures {
+            own: lane.wear,
+            wish: lane.wish,
+            reach: lane.reach,
+        }
     }
 }

@@ -37,11 +37,9 @@ pub fn rank_between<R: Ranking>(ranking: &R, party: u8, other: u8) -> Option<u16
     ensures is_the_rank { result ≡ (market_of (R.meaning ranking.now)).rank party other }
 {
     let streams = ranking.streams();
-    if party < streams && streams <= other {
-        ranking.rank_by_stream(party, other - streams)
-    } else if streams <= party && other < streams {
-        ranking.rank_by_lane(party - streams, other)
-    } else {
-        None
+    match (party.checked_sub(streams), other.checked_sub(streams)) {
+        (None, Some(lane)) => ranking.rank_by_stream(party, lane),
+        (Some(lane), None) => ranking.rank_by_lane(lane, other),
+        _ => None,
     }
 }

@@ -7,5 +7,3 @@ pub mod interface;
 pub mod listing;
 pub mod pairing;
 pub mod scorer;
-pub mod side;
-pub mod table;

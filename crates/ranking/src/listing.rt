@@ -1,115 +1,125 @@
-ghost use Rattle.std.specs.Prelude.{◌≡◌, ℕ, ◌+◌, ◌<◌, ◌≤◌, true, false, List, length, take, IfOk, OnErr, OnOk, slice_index};
-ghost use Rattle.record.specs.Refusals.{refused_by};
-ghost use Rattle.record.specs.Format.{Content};
-ghost use Rattle.record.specs.Reading.{ReadAs};
-ghost use Rattle.ranking.specs.Places.{place_at, Enterable, Entered};
-ghost use Rattle.ranking.specs.Listings.{listed, unlisted, content_meaning, fill_fault};
-ghost use Rattle.ranking.specs.TableLaws.{table_strict, table_bounded};
+ghost use Rattle.std.specs.Prelude.{◌≡◌, ℕ, ◌<◌, ◌≤◌, ◌&&◌, length, take, nat_lt, slice_index};
+ghost use Rattle.ranking.specs.Places.{DistinctPlaces, SmallPlaces, Enterable, Entered};
 
 use crate::interface::Ranking;
-use crate::table::{Listing, TABLE};
 use record::parts::Parts;
 use record::read::read;
 use record::refusal::Refusal;
+use record::sizes::Sizes;
 use record::word::{high_byte, low_byte, middle_byte};
 
-/// Stands in the table where a party gives no place.
-const NO_PLACE: u8 = 255;
+// A row for each party, streams first and then lanes, and in it the place that the party gives each of the other side.
+type Places = [[Option<u16>; 16]; 32];
+
+// What a record's choices say: the sizes, and the place that each party gives each of the other side.
+#[derive(Clone, Copy)]
+struct PlaceTable {
+    sizes: Sizes,
+    places: Places,
+    ghost strict: { DistinctPlaces places },
+    ghost small: { SmallPlaces places },
+}
+
+/// A ranking filled once from a record, whose ranks are the record's places.
+#[derive(Clone, Copy)]
+pub struct Listing {
+    table: Option<PlaceTable>,
+}
 
 // The table of the places that a record's choices give.
-fn places_of(choices: &[u32]) -> [u8; TABLE]
+fn places_of(choices: &[u32]) -> Places
     requires choices_of_a_record { (k : ℕ) → k < length choices.now → Enterable (take k choices.now) (slice_index choices.now k) }
     ensures has_every_place { Entered result choices.now }
-    ensures is_whole { length result ≡ 512 }
+    ensures has_small_places { SmallPlaces result }
 {
-    let mut places = [NO_PLACE; TABLE];
-    for k in 0..choices.len() {
-        let word = choices[k];
+    let mut places = [[None; 16]; 32];
+    for &word in choices {
         let owner = high_byte(word) as usize;
         let ranked = low_byte(word) as usize;
-        places[16 * owner + ranked] = middle_byte(word);
+        places[owner][ranked] = Some(u16::from(middle_byte(word)));
     }
     places
 }
 
+impl PlaceTable {
+    // Whether there are such a stream and such a lane. Both questions for a rank test this and then read a row of their own:
+    // one function for both would take the row beside the stream and the lane, and be no plainer.
+    fn has(&self, stream: u8, lane: u8) -> bool
+        ensures are_within_the_sizes { result ≡ (nat_lt stream self.now.sizes.streams && nat_lt lane self.now.sizes.lanes) }
+    {
+        stream < self.sizes.streams && lane < self.sizes.lanes
+    }
+}
+
 impl Listing {
+    ghost use Rattle.std.specs.Prelude.{true, false, List, is_some, IfOk, OnErr, OnOk};
+    ghost use Rattle.record.specs.Refusals.{refused_by};
+    ghost use Rattle.record.specs.Format.{Content};
+    ghost use Rattle.record.specs.Reading.{ReadAs};
+    ghost use Rattle.ranking.specs.Listings.{listed, unlisted, content_meaning, fill_fault};
+
     /// A listing of one stream and one lane where nobody ranks anybody.
     pub fn new() -> Listing
         ensures ranks_nobody { listed result ≡ unlisted }
-        ensures not_filled { result.filled ≡ false }
+        ensures not_filled { is_some result.table ≡ false }
     {
-        Listing {
-            streams: 1,
-            lanes: 1,
-            places: [NO_PLACE; TABLE],
-            filled: false,
-        }
+        Listing { table: None }
     }
 
     /// Fills a new listing from the words of a record, and answers the record's parts.
     /// Refuses what reading refuses, then 11 where it was filled before.
     pub fn fill<'a>(&mut self, words: &'a [u32]) -> Result<Parts<'a>, Refusal>
-        ensures refused_as_told { refused_by result ≡ fill_fault words.now self.old.filled }
+        ensures refused_as_told { refused_by result ≡ fill_fault words.now (is_some self.old.table) }
         ensures ranks_by_the_content { IfOk result (λ p. ((c : Content) × (ReadAs words.now p c × (listed self.new ≡ content_meaning c)))) }
-        ensures filled_once { OnOk result (self.new.filled ≡ true) }
+        ensures filled_once { OnOk result (is_some self.new.table ≡ true) }
         ensures refused_changes_nothing { OnErr result (self.new ≡ self.old) }
     {
         let parts = read(words)?;
-        if self.filled {
+        if self.table.is_some() {
             return Err(Refusal::Filled);
         }
         let places = places_of(parts.choices.words);
-        *self = Listing {
-            streams: parts.sizes.streams,
-            lanes: parts.sizes.lanes,
+        self.table = Some(PlaceTable {
+            sizes: parts.sizes,
             places,
-            filled: true,
-        };
+        });
         Ok(parts)
     }
 }
 
-// What the table says of number `ranked` in row `row`.
-fn place_in(places: &[u8; TABLE], row: u8, ranked: u8) -> Option<u16>
-    requires inside { (row < 32) × (ranked < 16) }
-    ensures is_the_place { result ≡ place_at places.now row ranked }
-{
-    let place = places[16 * row as usize + ranked as usize];
-    if place < NO_PLACE {
-        Some(place as u16)
-    } else {
-        None
-    }
-}
-
 impl Ranking for Listing {
+    ghost use Rattle.std.proofs.Common.{rules};
+    ghost use Rattle.ranking.specs.Listings.{listed};
+
     ghost meaning = { listed };
 
-    ghost sized = { λ x. x.sizes };
+    ghost sized = { Prim.search rules };
 
-    ghost bounded = { λ x. (table_bounded x.places x.streams x.lanes (λ i. i), table_bounded x.places x.lanes x.streams (λ j. x.streams + j)) };
+    ghost bounded = { Prim.search rules };
 
-    ghost strict = { λ x. (table_strict x.places x.streams x.lanes (λ i. i) x.sizes.3 x.strict, table_strict x.places x.lanes x.streams (λ j. x.streams + j) x.sizes.1 x.strict) };
+    ghost strict = { Prim.search rules };
 
     fn streams(&self) -> u8 {
-        self.streams
+        self.table.as_ref().map_or(1, |table| table.sizes.streams)
     }
 
     fn lanes(&self) -> u8 {
-        self.lanes
+        self.table.as_ref().map_or(1, |table| table.sizes.lanes)
     }
 
     fn rank_by_stream(&self, stream: u8, lane: u8) -> Option<u16> {
-        if stream < self.streams && lane < self.lanes {
-            place_in(&self.places, stream, lane)
+        let table = self.table.as_ref()?;
+        if table.has(stream, lane) {
+            table.places[stream as usize][lane as usize]
         } else {
             None
         }
     }
 
     fn rank_by_lane(&self, lane: u8, stream: u8) -> Option<u16> {
-        if lane < self.lanes && stream < self.streams {
-            place_in(&self.places, self.streams + lane, stream)
+        let table = self.table.as_ref()?;
+        if table.has(stream, lane) {
+            table.places[(table.sizes.streams + lane) as usize][stream as usize]
         } else {
             None
         }

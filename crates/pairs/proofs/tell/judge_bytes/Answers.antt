@@ -1,4 +1,4 @@
-use Rattle.std.proofs.Common.{◌≡◌, ◌-◌, take, IfOk, ap, ◌∙◌, subst, arith}
+use Rattle.std.proofs.Common.{IfOk, ap, ◌∙◌, subst}
 use Rattle.record.specs.Refusals.{or_else}
 use Rattle.record.specs.Bytes.{words_of}
 use Rattle.record.specs.Faults.{record_fault}

@@ -9,19 +9,21 @@ use Rattle.ranking.proofs.Blocking.{stable_pairing}
 use Rattle.ranking.proofs.Findings.{stable_answer}
 use Rattle.ranking.proofs.finder.find.Goals as goal
 
-pub returns-in-None : goal.returns-in-None
-returns-in-None g c =
-    let x = g.R.Ranking.meaning c.args.ranking.now in
+pub returns : goal.returns
+returns g c =
+    let paired = c.in_ok-paired.paired in
+    let given = c.in_ok-paired.ensures.of_this_ranking_and_pairing in
+    let x = g.R.Ranking.meaning paired.ranking.now in
     let m = market_of x in
-    let bytes = c.args.pairing.now in
+    let bytes = paired.pairing.now in
     let met = g.met.R.Ranking in
-    let lawful = lawful_market x (met.sized c.args.ranking.now) (met.bounded c.args.ranking.now) (met.strict c.args.ranking.now) in
-    let fine = c.in_ok-table.ensures.refused_as_told in
+    let lawful = lawful_market x (met.sized paired.ranking.now) (met.bounded paired.ranking.now) (met.strict paired.ranking.now) in
+    let fine = sym {a = pairing_fault m bytes} {b = None} paired.not_refused in
     let stable : Stable m (holding_of m bytes) =
-    stable_pairing m bytes lawful (lawful_from_fault m bytes (sym {a = None} {b = pairing_fault m bytes} fine))
+    stable_pairing m bytes lawful (lawful_from_fault m bytes paired.not_refused)
     c.in_default.ensures.is_the_first_unranked c.in-None.ensures.is_the_first_blocking in
-    record {
+    rw (← given.0, ← given.1) (record {
       refused_as_told = fine;
       found_as_told = stable;
       stable_exactly_when = stable_answer m (holding_of m bytes) (pairing_fault m bytes) (Ok Finding.Stable) fine stable;
-    }
+    })

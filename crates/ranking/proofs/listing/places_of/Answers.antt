@@ -1,31 +1,22 @@
-use Rattle.std.proofs.Common.{◌≡◌, ℕ, ◌+◌, ◌*◌, get_or, take, set, sym, ◌∙◌, subst, arith}
-use Rattle.std.proofs.lemmas.List.{take_more, take_all, length-set, length-replicate}
-use Rattle.record.specs.Faults.{high, middle, low}
-use Rattle.ranking.specs.Places.{Entered}
-use Rattle.ranking.proofs.Tables.{none_entered, one_entered}
+use Rattle.std.proofs.Common.{get_or, ◌∙◌, arith}
+use Rattle.std.proofs.lemmas.List.{take_more}
+use Rattle.ranking.proofs.Tables.{no_place, empty_whole, one_entered, entered_small, entered_whole}
 use Rattle.ranking.proofs.listing.places_of.Goals as goal
 
-pub loop-k-init : goal.loop-k-init
-loop-k-init c = (none_entered 512, length-replicate {A = ℕ} 512 255)
+pub loop-word-init : goal.loop-word-init
+loop-word-init c = record { right = no_place 32 16; small = λ p q k e. let n = no_place 32 16 p q in absurd cc; whole = empty_whole }
 
-pub loop-k-preserved : goal.loop-k-preserved
-loop-k-preserved c =
-    let ws = c.args.choices.now in
-    let k = c.loop-k.k in
-    let w = get_or ws k 0 in
-    let places = c.loop-k.places in
-    let fit = c.requires.choices_of_a_record k (omega arith) in
-    let next : Entered (set places (16 * high w + low w) (middle w)) (take (k + 1) ws) =
-    subst (Entered (set places (16 * high w + low w) (middle w))) (sym (take_more ws k 0 (omega arith))) (one_entered places (take k ws) w c.loop-k.invariant.1 fit c.loop-k.invariant.0) in
-    let at : 16 * high w + low w ≡ 16 * c.high_byte-owner.result + c.low_byte-ranked.result = omega (arith, c.high_byte-owner.ensures.is_the_high_byte, c.low_byte-ranked.ensures.is_the_low_byte) in (
-      subst (λ i. Entered (set places i c.middle_byte.result) (take (k + 1) ws)) at (subst (λ v. Entered (set places (16 * high w + low w) v) (take (k + 1) ws)) (sym c.middle_byte.ensures.is_the_middle_byte) next),
-      length-set places (16 * c.high_byte-owner.result + c.low_byte-ranked.result) c.middle_byte.result ∙ c.loop-k.invariant.1,
-    )
-
-pub returns : goal.returns
-returns c =
-    let ws = c.args.choices.now in
-    record {
-      has_every_place = subst (Entered c.loop-k.places) (take_all c.loop-k.k ws (omega arith)) c.loop-k.invariant.0;
-      is_whole = c.loop-k.invariant.1;
-    }
+pub loop-word-preserved : goal.loop-word-preserved
+loop-word-preserved c =
+    let i = c.loop-word.word-index in
+    let places = c.loop-word.places in
+    let held = c.loop-word.invariant in
+    let w = get_or c.args.choices.now i 0 in
+    let fit = c.requires.choices_of_a_record i c.loop-word-test.true in
+    let middle = c.from.ensures ∙ c.middle_byte.ensures.is_the_middle_byte in
+    rw (c.high_byte-owner.ensures.is_the_high_byte, c.low_byte-ranked.ensures.is_the_low_byte, middle, take_more c.args.choices.now i 0 c.loop-word-test.true)
+    (record {
+      right = one_entered places _ w held.whole fit held.right;
+      small = entered_small places held.whole _ _ _ fit.row fit.column (omega (arith, fit.few)) held.small;
+      whole = entered_whole places held.whole _ _ _ fit.row fit.column;
+    })

@@ -1,6 +1,7 @@
-use Rattle.std.proofs.Common.{◌≡◌, length, take}
-use Rattle.ranking.specs.Places.{Entered}
+use Rattle.std.proofs.Common.{take}
+use Rattle.ranking.specs.Places.{SmallPlaces, Entered}
+use Rattle.ranking.proofs.Tables.{WholeTable}
 use Rattle.ranking.proofs.listing.places_of.Given as goal
 
-abbrev pub invariant-loop-k : goal.invariant-loop-k
-invariant-loop-k l = Entered l.places (take l.k l.choices) × (length l.places ≡ 512)
+abbrev pub invariant-loop-word : goal.invariant-loop-word
+invariant-loop-word l = record { right : Entered l.places (take l.word-index l.choices); small : SmallPlaces l.places; whole : WholeTable l.places }
