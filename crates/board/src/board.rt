@@ -50,7 +50,7 @@ impl<R: Ranking> Board<R> {
         ensures is_the_holding { IfOk result (λ h. h ≡ (state_at self.now.tables).holding party) }
     {
         self.tables.ranks.check_party(party)?;
-        Ok(self.tables.rows.holding(party))
+        Ok(self.tables.rows.row(party).holding)
     }
 
     /// A party's open set: those to whom it may still make an offer.
@@ -59,7 +59,7 @@ impl<R: Ranking> Board<R> {
         ensures is_the_open_set { IfOk result (λ o. (j : ℕ) → has o.0 j ≡ (state_at self.now.tables).opens party j) }
     {
         self.tables.ranks.check_party(party)?;
-        Ok(self.tables.rows.open_set(party))
+        Ok(self.tables.rows.row(party).open_set)
     }
 
     /// A party's bidders: those who ever made it an offer.
@@ -68,7 +68,7 @@ impl<R: Ranking> Board<R> {
         ensures is_the_set_of_bidders { IfOk result (λ b. (j : ℕ) → has b.0 j ≡ (state_at self.now.tables).bidder party j) }
     {
         self.tables.ranks.check_party(party)?;
-        Ok(self.tables.rows.bidders_of(party))
+        Ok(self.tables.rows.row(party).bidders)
     }
 
     /// Whether a party is content.

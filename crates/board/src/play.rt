@@ -92,7 +92,7 @@ impl Tables {
         let streams = self.ranks.streams;
         let mut lanes = [NOBODY; MOST_STREAMS];
         for stream in 0..streams {
-            lanes[stream as usize] = lane_byte(self.rows.holding(stream), streams);
+            lanes[stream as usize] = lane_byte(self.rows.row(stream).holding, streams);
         }
         lanes
     }

@@ -43,7 +43,7 @@ fn best_open(ranks: &RankTable, rows: &Rows, party: u8) -> Option<u8>
     requires is_a_party { party < party_count (market_in ranks.now) }
     ensures is_the_best { BestOpen (market_in ranks.now) (state_of rows.now) party result }
 {
-    let open = rows.open_set(party);
+    let open = rows.row(party).open_set;
     let (first, end) = other_parties(ranks, party);
     let mut found = None;
     let mut lowest = NO_RANK;
@@ -64,7 +64,7 @@ pub(crate) fn best(ranks: &RankTable, rows: &Rows, party: u8) -> Option<u8>
     ensures best_or_content { Sought (market_in ranks.now) (state_of rows.now) party result }
 {
     let found = best_open(ranks, rows, party)?;
-    if is_party(rows.holding(party), found) {
+    if is_party(rows.row(party).holding, found) {
         None
     } else {
         Some(found)
@@ -77,7 +77,7 @@ fn held_rank(ranks: &RankTable, rows: &Rows, party: u8) -> Option<u16>
     requires has_a_row { party < 32 }
     ensures is_the_rank { result ≡ held_rank (market_in ranks.now) (state_of rows.now).holding party }
 {
-    match rows.holding(party) {
+    match rows.row(party).holding {
         Some(held) => ranks.rank(party, held),
         None => None,
     }
@@ -101,8 +101,8 @@ fn wronged_by(rows: &Rows, taken: bool, y: u8) -> Option<u8>
     if !taken {
         return None;
     }
-    let held = rows.holding(y)?;
-    if rows.bidders_of(held).contains(y) {
+    let held = rows.row(y).holding?;
+    if rows.row(held).bidders.contains(y) {
         Some(held)
     } else {
         None

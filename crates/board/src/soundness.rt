@@ -1,6 +1,6 @@
 //! Whether rows keep what every board keeps.
 
-ghost use Rattle.std.specs.Prelude.{◌≡◌, ℕ, ◌+◌, ◌<◌, ◌≤◌, Bool, true, false, not, ◌&&◌, ◌||◌, length, is_some, Decides};
+ghost use Rattle.std.specs.Prelude.{◌≡◌, ℕ, ◌+◌, ◌<◌, ◌≤◌, Bool, true, false, not, ◌&&◌, ◌||◌, is_some, Decides};
 ghost use Rattle.sets.specs.Sets.{has};
 ghost use Rattle.board.specs.Sides.{across};
 ghost use Rattle.ranking.specs.Stability.{holds};
@@ -17,7 +17,7 @@ fn offer_between(rows: &Rows, a: u8, b: u8) -> bool
     requires have_rows { (a < 32) × (b < 32) }
     ensures is_the_test { result ≡ offer_between (state_of rows.now) a b }
 {
-    rows.bidders_of(a).contains(b) || rows.bidders_of(b).contains(a)
+    rows.row(a).bidders.contains(b) || rows.row(b).bidders.contains(a)
 }
 
 // Whether b, whom a holds, holds a, is ranked by a, is in its open set, and one has made the other an offer.
@@ -25,9 +25,9 @@ fn partner_is_right(ranks: &RankTable, rows: &Rows, a: u8, b: u8) -> bool
     requires have_rows { (a < 32) × (b < 32) }
     ensures is_the_test { let σ = state_of rows.now in result ≡ (holds σ.holding b a && (is_some ((market_in ranks.now).rank a b) && (σ.opens a b && offer_between σ a b))) }
 {
-    is_party(rows.holding(b), a)
+    is_party(rows.row(b).holding, a)
         && ranks.rank(a, b).is_some()
-        && rows.open_set(a).contains(b)
+        && rows.row(a).open_set.contains(b)
         && offer_between(rows, a, b)
 }
 
@@ -35,9 +35,8 @@ fn partner_is_right(ranks: &RankTable, rows: &Rows, a: u8, b: u8) -> bool
 fn holding_is_right(ranks: &RankTable, rows: &Rows, a: u8) -> bool
     requires has_a_row { a < 32 }
     ensures says_whether { Decides result ((b : ℕ) → held_right (market_in ranks.now) (state_of rows.now) a b ≡ true) }
-    ensures of_32_rows { length rows.now.holdings ≡ 32 }
 {
-    match rows.holding(a) {
+    match rows.row(a).holding {
         Some(b) => b < 32 && partner_is_right(ranks, rows, a, b),
         None => true,
     }
@@ -49,7 +48,8 @@ fn pair_is_right(rows: &Rows, a: u8, b: u8) -> bool
     requires have_rows { (a < 32) × (b < 32) }
     ensures is_the_test { let σ = state_of rows.now in result ≡ ((σ.opens a b || σ.opens b a) && (σ.opens a b || offer_between σ a b)) }
 {
-    rows.open_set(a).contains(b) || (rows.open_set(b).contains(a) && offer_between(rows, a, b))
+    rows.row(a).open_set.contains(b)
+        || (rows.row(b).open_set.contains(a) && offer_between(rows, a, b))
 }
 
 // The parties of the other side of a party's; nobody for a number that is no party's.
@@ -67,10 +67,10 @@ fn facing(ranks: &RankTable, a: u8) -> Members
 fn sets_are_right(ranks: &RankTable, rows: &Rows, a: u8) -> bool
     requires has_a_row { a < 32 }
     ensures says_whether { Decides result ((b : ℕ) → sides_right (market_in ranks.now) (state_of rows.now) a b ≡ true) }
-    ensures of_32_rows { result ≡ true → (length rows.now.open_sets ≡ 32) × (length rows.now.bidders ≡ 32) }
 {
     let others = facing(ranks, a);
-    rows.open_set(a).is_within(others) && rows.bidders_of(a).is_within(others)
+    let row = rows.row(a);
+    row.open_set.is_within(others) && row.bidders.is_within(others)
 }
 
 // Whether a party's pairs with all parties of the other side are right.
@@ -91,7 +91,6 @@ fn pairs_are_right(ranks: &RankTable, rows: &Rows, a: u8) -> bool
 fn party_is_right(ranks: &RankTable, rows: &Rows, a: u8) -> bool
     requires has_a_row { a < 32 }
     ensures says_whether { Decides result ((b : ℕ) → kept_at (market_in ranks.now) (state_of rows.now) a b ≡ true) }
-    ensures of_32_rows { result ≡ true → (length rows.now.holdings ≡ 32) × (length rows.now.open_sets ≡ 32) × (length rows.now.bidders ≡ 32) }
 {
     if !holding_is_right(ranks, rows, a) {
         return false;

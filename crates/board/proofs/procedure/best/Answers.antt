@@ -1,8 +1,9 @@
-use Rattle.std.proofs.Common.{sym, ◌∙◌, subst}
+use Rattle.std.proofs.Common.{sym, ap, ◌∙◌, subst}
 use Rattle.ranking.specs.Market.{Market}
 use Rattle.board.specs.State.{State}
 use Rattle.board.specs.Calls.{Sought}
 use Rattle.board.specs.Meaning.{state_of, market_in}
+use Rattle.board.specs.declared.rows.Row.{Row}
 use Rattle.board.proofs.RankTables.{lawful_table}
 use Rattle.board.proofs.Seeking.{none_content, best_held_content, best_sought, the_party, not_the_party}
 use Rattle.board.proofs.procedure.best.Goals as goal
@@ -18,7 +19,7 @@ returns-then-is_party c =
     let q = c.in_ok-found.found in
     record {
       best_or_content = best_held_content (market_in c.args.ranks.now) (lawful_table c.args.ranks.now) (state_of c.args.rows.now) c.requires.kept c.args.party q c.in_ok-found.ensures.is_the_best
-          (sym c.holding.ensures.is_the_holding ∙ the_party c.holding.result q (sym c.if-is_party.ensures.is_the_test));
+          (ap (λ (r : Row). r.holding) (sym c.row.ensures.is_the_row) ∙ the_party c.row.result.holding q (sym c.if-is_party.ensures.is_the_test));
     }
 
 pub returns-else-is_party : goal.returns-else-is_party
@@ -26,5 +27,5 @@ returns-else-is_party c =
     let q = c.in_ok-found.found in
     record {
       best_or_content = best_sought (market_in c.args.ranks.now) (lawful_table c.args.ranks.now) (state_of c.args.rows.now) c.requires.kept c.args.party q c.in_ok-found.ensures.is_the_best
-          (λ e. not_the_party c.holding.result q (sym c.if-is_party.ensures.is_the_test) (c.holding.ensures.is_the_holding ∙ e));
+          (λ e. not_the_party c.row.result.holding q (sym c.if-is_party.ensures.is_the_test) (ap (λ (r : Row). r.holding) c.row.ensures.is_the_row ∙ e));
     }

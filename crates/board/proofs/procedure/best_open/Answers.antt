@@ -1,7 +1,9 @@
-use Rattle.std.proofs.Common.{sym, ap, ◌∙◌, arith}
+use Rattle.std.proofs.Common.{◌≡◌, sym, ap, ◌∙◌, arith}
 use Rattle.std.proofs.lemmas.Bool.{both_ways}
 use Rattle.ranking.specs.Market.{Market, LawfulMarket, prefers}
 use Rattle.board.specs.State.{State}
+use Rattle.sets.specs.Sets.{has}
+use Rattle.board.specs.declared.rows.Row.{Row}
 use Rattle.board.specs.RankTables.{rank_from}
 use Rattle.board.specs.Meaning.{state_of, market_in}
 use Rattle.board.proofs.RankTables.{lawful_table}
@@ -25,7 +27,7 @@ loop-other-preserved c =
     let lowest = c.loop-other.lowest in
     let rank = c.number-rank.result in
     let is = c.number-rank.ensures.is_the_rank in
-    let in-set = c.open_set-open.ensures.is_the_open_set q in
+    let in-set : has c.row.result.open_set.0 q ≡ σ.opens p q = ap (λ (r : Row). has r.open_set.0 q) c.row.ensures.is_the_row in
     elim c.if-rank-lowest.branch [
       | then-rank-lowest+then-contains w ↦ (
         found_better m law σ p q found (rank_from lowest) (rank_from rank) c.if-rank-lowest.found (rank_from c.if-rank-lowest.lowest) inv.0 (sym in-set ∙ sym w.if-contains.ensures.is_membership) is (lower_better rank lowest inv.1 w.if-rank-lowest.true) w.found-is (ap rank_from w.lowest-is),

@@ -8,13 +8,13 @@ pub returns-then-not-holding_is_right : goal.returns-then-not-holding_is_right
 returns-then-not-holding_is_right c =
     let m = market_in c.args.ranks.now in
     let σ = state_of c.args.rows.now in
-    record { says_whether = (λ e. absurd (both_ways false refl e), λ f. sym c.if-not-holding_is_right.true ∙ c.holding_is_right.ensures.says_whether.1 (held_part m σ c.args.a f)); of_32_rows = λ e. absurd (both_ways false refl e) }
+    record { says_whether = (λ e. absurd (both_ways false refl e), λ f. sym c.if-not-holding_is_right.true ∙ c.holding_is_right.ensures.says_whether.1 (held_part m σ c.args.a f)) }
 
 pub returns-then-not-pairs_are_right : goal.returns-then-not-pairs_are_right
 returns-then-not-pairs_are_right c =
     let m = market_in c.args.ranks.now in
     let σ = state_of c.args.rows.now in
-    record { says_whether = (λ e. absurd (both_ways false refl e), λ f. sym c.if-not-pairs_are_right.true ∙ c.pairs_are_right.ensures.says_whether.1 (open_part m σ c.args.a f)); of_32_rows = λ e. absurd (both_ways false refl e) }
+    record { says_whether = (λ e. absurd (both_ways false refl e), λ f. sym c.if-not-pairs_are_right.true ∙ c.pairs_are_right.ensures.says_whether.1 (open_part m σ c.args.a f)) }
 
 pub returns : goal.returns
 returns c =
@@ -26,5 +26,4 @@ returns c =
     let sides = c.sets_are_right.ensures.says_whether in
     record {
       says_whether = (λ e. all_parts m σ a held open-right (sides.0 e), λ f. sides.1 (sides_part m σ a f));
-      of_32_rows = λ e. (c.holding_is_right.ensures.of_32_rows, (c.sets_are_right.ensures.of_32_rows e).0, (c.sets_are_right.ensures.of_32_rows e).1);
     }
