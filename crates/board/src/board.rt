@@ -11,8 +11,7 @@ ghost use Rattle.board.specs.Kept.{Kept};
 ghost use Rattle.board.specs.Meaning.{state_of};
 ghost use Rattle.board.specs.Calls.{market_at, state_at, party_fault, tally_of, pairing_at};
 
-use crate::play::MOST_STREAMS;
-use crate::rows::Rows;
+use crate::rows::{MOST_STREAMS, Rows};
 use crate::tables::Tables;
 use crate::turned::Turned;
 use ranking::interface::Ranking;

@@ -7,6 +7,9 @@ ghost use Rattle.board.specs.Offer.{with_holding, joins, loses, leaves, pairs_up
 
 use sets::Members;
 
+/// The most streams.
+pub const MOST_STREAMS: usize = 16;
+
 /// The most parties.
 pub const MOST_PARTIES: usize = 32;
 

@@ -1,7 +1,7 @@
 use Rattle.std.proofs.Common.{◌≡◌, ℕ, Bool, true, not, ◌||◌, sym, refl, ap, ◌∙◌, arith}
 use Rattle.sets.specs.Sets.{has}
 use Rattle.board.specs.declared.rows.Row.{Row}
-use Rattle.board.proofs.soundness.sets_are_right.Goals as goal
+use Rattle.board.proofs.soundness.Unchecked.sets_are_right.Goals as goal
 
 -- two sets that lie within the other side
 both : (x y c : Bool) → (x ≡ true → c ≡ true) → (y ≡ true → c ≡ true) → (not (x || y) || c) ≡ true

@@ -5,21 +5,21 @@ use Rattle.board.specs.State.{State}
 use Rattle.sets.specs.Sets.{has}
 use Rattle.board.specs.declared.rows.Row.{Row}
 use Rattle.board.specs.RankTables.{rank_from}
-use Rattle.board.specs.Meaning.{state_of, market_in}
+use Rattle.board.specs.Calls.{market_at, state_at}
 use Rattle.board.proofs.RankTables.{lawful_table}
 use Rattle.board.proofs.Seeking.{found_none, found_better, found_as_before, found_best, lower_better, not_lower_not_better}
-use Rattle.board.proofs.procedure.best_open.Goals as goal
-use Rattle.board.proofs.procedure.best_open.Goals.{then-rank-lowest+then-contains, else-rank-lowest, else-rank-lowest-via-then-rank-lowest+else-contains, else-rank-lowest-via-else-rank-lowest}
+use Rattle.board.proofs.tables.Tables.best_open.Goals as goal
+use Rattle.board.proofs.tables.Tables.best_open.Goals.{then-rank-lowest+then-contains, else-rank-lowest, else-rank-lowest-via-then-rank-lowest+else-contains, else-rank-lowest-via-else-rank-lowest}
 
 pub loop-other-init : goal.loop-other-init
 loop-other-init c =
-    (found_none (market_in c.args.ranks.now) (lawful_table c.args.ranks.now) (state_of c.args.rows.now) c.args.party c.other_parties-first.result.0 c.other_parties-first.result.1 c.other_parties-first.ensures.are_the_other_side, omega arith)
+    (found_none (market_at c.args.self.now) (lawful_table c.args.self.now.ranks) (state_at c.args.self.now) c.args.party c.other_parties-first.result.0 c.other_parties-first.result.1 c.other_parties-first.ensures.are_the_other_side, omega arith)
 
 pub loop-other-preserved : goal.loop-other-preserved
 loop-other-preserved c =
-    let m : Market = market_in c.args.ranks.now in
-    let law : LawfulMarket m = lawful_table c.args.ranks.now in
-    let σ : State = state_of c.args.rows.now in
+    let m : Market = market_at c.args.self.now in
+    let law : LawfulMarket m = lawful_table c.args.self.now.ranks in
+    let σ : State = state_at c.args.self.now in
     let p = c.args.party in
     let q = c.loop-other.other in
     let inv = c.loop-other.invariant in
@@ -46,4 +46,4 @@ loop-other-preserved c =
 
 pub returns : goal.returns
 returns c =
-    record { is_the_best = found_best (market_in c.args.ranks.now) (lawful_table c.args.ranks.now) (state_of c.args.rows.now) c.args.party c.other_parties-first.result.0 c.other_parties-first.result.1 c.loop-other.other c.loop-other.found (rank_from c.loop-other.lowest) c.other_parties-first.ensures.are_the_other_side c.loop-other-test.false c.loop-other.invariant.0 }
+    record { is_the_best = found_best (market_at c.args.self.now) (lawful_table c.args.self.now.ranks) (state_at c.args.self.now) c.args.party c.other_parties-first.result.0 c.other_parties-first.result.1 c.loop-other.other c.loop-other.found (rank_from c.loop-other.lowest) c.other_parties-first.ensures.are_the_other_side c.loop-other-test.false c.loop-other.invariant.0 }
