@@ -1,5 +1,5 @@
 -- The search for the best ranked member of an open set, and what it says of who is content.
-use Rattle.std.proofs.Common.{◌≡◌, ℕ, ◌+◌, ◌<◌, ◌≤◌, Bool, true, false, cond, ◌&&◌, ltb, leb, is_some, Some, None, Option, sym, refl, ap, ◌∙◌, ⊎_elim, arith}
+use Rattle.std.proofs.Common.{◌≡◌, ℕ, ◌+◌, ◌<◌, ◌≤◌, Bool, true, false, cond, not, ◌&&◌, eqb, ltb, leb, is_some, Some, None, Option, sym, refl, ap, ◌∙◌, subst, ⊎_elim, arith}
 use Rattle.std.proofs.lemmas.Bool.{and_from, and_right, and_left, both_ways, cases_lt, cases_Bool, lt-ltb, le-ltb, ltb-true, ltb-false, eq-eqb, eqb-true}
 use Rattle.std.proofs.lemmas.Bool.Decides.{nat_tests}
 use Rattle.ranking.specs.Market.{Market, prefers, LawfulMarket}
@@ -9,7 +9,9 @@ use Rattle.ranking.proofs.Blocking.{prefers_same}
 use Rattle.board.specs.State.{State, Content, Best}
 use Rattle.board.specs.Kept.{Kept}
 use Rattle.board.specs.RankTables.{rank_from}
-use Rattle.board.specs.Calls.{BestOpen}
+use Rattle.board.specs.Calls.{BestOpen, Sought}
+use Rattle.std.specs.Option.{option_eq}
+use Rattle.std.specs.Bool.{then_some}
 use Rattle.board.proofs.Keeping.{held_facts, not_so, ranked_across}
 
 -- Ranks in order.
@@ -150,3 +152,16 @@ the_party (Some x) q e = ap Some (eqb-true x q e)
 
 pub not_the_party : (o : Option ℕ) (q : ℕ) → is_party o q ≡ false → o ≡ Some q → ⊥
 not_the_party o q e s = both_ways (is_party o q) e (ap (λ x. is_party x q) s ∙ eq-eqb q q refl)
+
+module _ (m : Market) (law : LawfulMarket m) (σ : State) (kept : Kept m σ) (p : ℕ) where
+  -- the best of p's open set is sought, unless p holds it
+  pub sought_or_held : (q : ℕ) → BestOpen m σ p (Some q) → (h : Option ℕ) → h ≡ σ.holding p → Sought m σ p (then_some (not (option_eq eqb h (Some q))) q)
+  sought_or_held q best h e = go (is_party h q) refl
+    where
+      same : (h : Option ℕ) → option_eq eqb h (Some q) ≡ is_party h q
+      same None = refl
+      same (Some x) = refl
+
+      go : (b : Bool) → is_party h q ≡ b → Sought m σ p (then_some (not (option_eq eqb h (Some q))) q)
+      go true s = subst (λ b. Sought m σ p (then_some (not b) q)) (sym (same h ∙ s)) (best_held_content m law σ kept p q best (sym e ∙ the_party h q s))
+      go false s = subst (λ b. Sought m σ p (then_some (not b) q)) (sym (same h ∙ s)) (best_sought m law σ kept p q best (λ i. not_the_party h q s (e ∙ i)))

@@ -1,14 +1,14 @@
 //! The procedure over a board's tables: offers, chains, turns and questions.
 
-ghost use Rattle.std.specs.Prelude.{◌≡◌, ℕ, ◌+◌, ◌*◌, ◌<◌, ◌≤◌, Bool, true, false, ◌&&◌, take, IfSome, Decides, MatchOption, nat_le, nat_lt, slice_index};
+ghost use Rattle.std.specs.Prelude.{◌≡◌, ℕ, ◌+◌, ◌*◌, ◌<◌, ◌≤◌, Bool, true, false, ◌&&◌, take, is_some, IfSome, Decides, MatchOption, unwrap_or, if◌then◌else◌, nat_le, nat_lt, slice_index};
 ghost use Rattle.ranking.specs.Market.{market_of};
 ghost use Rattle.board.specs.Sides.{party_count, across};
-ghost use Rattle.ranking.specs.Stability.{held_rank, is_party};
+ghost use Rattle.ranking.specs.Stability.{held_rank};
 ghost use Rattle.board.specs.State.{new_state, Content, Standstill, Best};
 ghost use Rattle.board.specs.Offer.{offered, takes, wronged};
 ghost use Rattle.board.specs.Turn.{Chain, Owed, Turn};
 ghost use Rattle.board.specs.Kept.{Kept};
-ghost use Rattle.board.specs.Calls.{market_at, state_at, Sought, BestOpen, tally_of, lane_byte, pairing_at};
+ghost use Rattle.board.specs.Calls.{market_at, state_at, Sought, BestOpen, answer_to, tally_of, lane_byte, pairing_at};
 ghost use Rattle.board.specs.Meaning.{state_of, market_in};
 
 use crate::rank_table::{NO_RANK, RankTable};
@@ -20,25 +20,12 @@ use ranking::finder::is_better;
 use ranking::interface::Ranking;
 use ranking::pairing::NOBODY;
 
-/// Whether somebody is this party; nobody is not.
-pub(crate) fn is_party(somebody: Option<u8>, party: u8) -> bool
-    ensures is_the_test { result ≡ is_party somebody party }
-{
-    match somebody {
-        Some(other) => other == party,
-        None => false,
-    }
-}
-
 // Whom a stream holds as a byte of a pairing: the number of its lane, or 255 for nobody.
 fn lane_byte(held: Option<u8>, streams: u8) -> u8
     requires is_a_lane { IfSome held (λ q. streams ≤ q) }
     ensures is_the_byte { result ≡ lane_byte streams held }
 {
-    match held {
-        Some(lane) => lane - streams,
-        None => NOBODY,
-    }
+    held.map_or(NOBODY, |lane| lane - streams)
 }
 
 impl RankTable {
@@ -56,12 +43,16 @@ impl RankTable {
     }
 }
 
-/// What an offer of p to q came to: whether it was taken, and whom p and q wronged by leaving.
+/// What an offer of p to q came to.
 #[derive(Clone, Copy)]
-pub(crate) struct Offered {
-    pub(crate) taken: bool,
-    pub(crate) wronged_by_p: Option<u8>,
-    pub(crate) wronged_by_q: Option<u8>,
+pub(crate) enum Offered {
+    /// q did not take p.
+    NotTaken,
+    /// q took p. Each may have wronged the party that it left.
+    Taken {
+        wronged_by_p: Option<u8>,
+        wronged_by_q: Option<u8>,
+    },
 }
 
 impl Tables {
@@ -116,11 +107,7 @@ impl Tables {
         ensures best_or_content { Sought (market_at self.now) (state_at self.now) party result }
     {
         let found = self.best_open(party)?;
-        if is_party(self.rows.row(party).holding, found) {
-            None
-        } else {
-            Some(found)
-        }
+        (self.rows.row(party).holding != Some(found)).then_some(found)
     }
 
     // The rank that a party gives its holding; none where it holds nobody.
@@ -128,10 +115,8 @@ impl Tables {
         requires has_a_row { party < 32 }
         ensures is_the_rank { result ≡ held_rank (market_at self.now) (state_at self.now).holding party }
     {
-        match self.rows.row(party).holding {
-            Some(held) => self.ranks.rank(party, held),
-            None => None,
-        }
+        let held = self.rows.row(party).holding?;
+        self.ranks.rank(party, held)
     }
 
     // Whether q takes p, while somebody is waiting or nobody.
@@ -139,40 +124,33 @@ impl Tables {
         requires have_rows { (p < 32) × (q < 32) }
         ensures is_the_rule { result ≡ takes (market_at self.now) waiting (state_at self.now) p q }
     {
-        !is_party(waiting, q) && is_better(self.ranks.rank(q, p), self.held_rank(q))
+        waiting != Some(q) && is_better(self.ranks.rank(q, p), self.held_rank(q))
     }
 
-    // The party that y wrongs by leaving its holding, which it leaves where the offer was taken.
-    fn wronged_by(&self, taken: bool, y: u8) -> Option<u8>
+    // The party that y wrongs by leaving its holding.
+    fn wronged_by(&self, y: u8) -> Option<u8>
         requires has_a_row { y < 32 }
-        ensures is_the_wronged { result ≡ wronged (state_at self.now) taken y }
+        ensures is_the_wronged { result ≡ wronged (state_at self.now) true y }
     {
-        if !taken {
-            return None;
-        }
         let held = self.rows.row(y).holding?;
-        if self.rows.row(held).bidders.contains(y) {
-            Some(held)
-        } else {
-            None
-        }
+        self.rows.row(held).bidders.contains(y).then_some(held)
     }
 
     // An offer of p to q, whom p seeks best, while somebody is waiting or nobody.
     fn make_offer(&mut self, waiting: Option<u8>, p: u8, q: u8) -> Offered
         requires goes_to_the_best { Best (market_at self.old) (state_at self.old) p q }
-        ensures taken_by_the_rule { result.taken ≡ takes (market_at self.old) waiting (state_at self.old) p q }
-        ensures wronged_by_p_leaving { result.wronged_by_p ≡ wronged (state_at self.old) result.taken p }
-        ensures wronged_by_q_leaving { result.wronged_by_q ≡ wronged (state_at self.old) result.taken q }
-        ensures board_after_it { state_at self.new ≡ offered (state_at self.old) p q result.taken }
+        ensures taken_by_the_rule { result ≡ answer_to (market_at self.old) waiting (state_at self.old) p q }
+        ensures board_after_it { state_at self.new ≡ offered (state_at self.old) p q (takes (market_at self.old) waiting (state_at self.old) p q) }
         ensures ranks_unchanged { self.new.ranks ≡ self.old.ranks }
     {
-        let taken = self.takes_offer(waiting, p, q);
-        let wronged_by_p = self.wronged_by(taken, p);
-        let wronged_by_q = self.wronged_by(taken, q);
-        self.rows.settle(p, q, taken);
-        Offered {
-            taken,
+        if !self.takes_offer(waiting, p, q) {
+            self.rows.refuse(p, q);
+            return Offered::NotTaken;
+        }
+        let wronged_by_p = self.wronged_by(p);
+        let wronged_by_q = self.wronged_by(q);
+        self.rows.accept(p, q);
+        Offered::Taken {
             wronged_by_p,
             wronged_by_q,
         }
@@ -188,29 +166,31 @@ impl Tables {
         let mut party = first;
         let mut offers: u16 = 0;
         while let Some(other) = self.best(party) {
-            let offer = self.make_offer(waiting, party, other);
             offers += 1;
-            if offer.taken {
-                match offer.wronged_by_q {
-                    Some(wronged) => party = wronged,
-                    None => return offers,
-                }
+            match self.make_offer(waiting, party, other) {
+                Offered::NotTaken => {}
+                Offered::Taken {
+                    wronged_by_q: Some(wronged),
+                    ..
+                } => party = wronged,
+                Offered::Taken {
+                    wronged_by_q: None,
+                    ..
+                } => return offers,
             }
         }
         offers
     }
 
-    // The chain that a wronged party is owed, if there is one: its offers, and how many chains that is.
-    fn owed(&mut self, waiting: Option<u8>, wronged: Option<u8>) -> (u16, u8)
+    // The chain that a wronged party is owed, if there is one: how many offers it has.
+    fn owed(&mut self, waiting: Option<u8>, wronged: Option<u8>) -> Option<u16>
         requires is_a_party { IfSome wronged (λ x. x < party_count (market_at self.old)) }
-        ensures ran { Owed (market_at self.old) waiting wronged (state_at self.old) (state_at self.new) result.0 result.1 }
-        ensures has_few_offers { (result.0 ≤ (market_at self.old).streams * (market_at self.old).lanes) × (result.1 ≤ 1) }
+        ensures ran { Owed (market_at self.old) waiting wronged (state_at self.old) (state_at self.new) (unwrap_or result 0) (if is_some result then 1 else 0) }
+        ensures has_few_offers { unwrap_or result 0 ≤ (market_at self.old).streams * (market_at self.old).lanes }
         ensures ranks_unchanged { self.new.ranks ≡ self.old.ranks }
     {
-        match wronged {
-            Some(party) => (self.chain(waiting, party), 1),
-            None => (0, 0),
-        }
+        let party = wronged?;
+        Some(self.chain(waiting, party))
     }
 
     /// The turn of a party.
@@ -225,12 +205,22 @@ impl Tables {
         let Some(other) = self.best(party) else {
             return Turned::Idle;
         };
-        let offer = self.make_offer(None, party, other);
-        let (first_offers, first) = self.owed(offer.wronged_by_p, offer.wronged_by_q);
-        let (second_offers, second) = self.owed(None, offer.wronged_by_p);
-        Turned::Moved {
-            offers: 1 + (first_offers + second_offers),
-            chains: first + second,
+        match self.make_offer(None, party, other) {
+            Offered::NotTaken => Turned::Moved {
+                offers: 1,
+                chains: 0,
+            },
+            Offered::Taken {
+                wronged_by_p,
+                wronged_by_q,
+            } => {
+                let first = self.owed(wronged_by_p, wronged_by_q);
+                let second = self.owed(None, wronged_by_p);
+                Turned::Moved {
+                    offers: 1 + (first.unwrap_or(0) + second.unwrap_or(0)),
+                    chains: u8::from(first.is_some()) + u8::from(second.is_some()),
+                }
+            }
         }
     }
 

@@ -22,10 +22,7 @@ fn place_of(party: u8, other: u8) -> usize
 fn rank_number(rank: Option<u16>) -> u32
     ensures is_the_number { rank_from result ≡ rank }
 {
-    match rank {
-        Some(number) => number as u32,
-        None => NO_RANK,
-    }
+    rank.map_or(NO_RANK, u32::from)
 }
 
 // The ranks of a ranking by party numbers. Every question is put once.
@@ -90,11 +87,6 @@ impl RankTable {
         requires have_rows { (party < 32) × (other < 32) }
         ensures is_the_rank { result ≡ (market_in self.now).rank party other }
     {
-        let number = self.number(party, other);
-        if number < NO_RANK {
-            Some(number as u16)
-        } else {
-            None
-        }
+        u16::try_from(self.number(party, other)).ok()
     }
 }

@@ -1,4 +1,4 @@
-ghost use Rattle.std.specs.Prelude.{◌≡◌, ℕ, ◌+◌, ◌<◌, ◌≤◌, length, IfSome};
+ghost use Rattle.std.specs.Prelude.{◌≡◌, ℕ, ◌+◌, ◌<◌, ◌≤◌, true, false, length, IfSome};
 ghost use Rattle.sets.specs.Sets.{has};
 ghost use Rattle.ranking.specs.Market.{Market};
 ghost use Rattle.board.specs.Sides.{across};
@@ -116,21 +116,26 @@ impl Rows {
         self.set_holding(p, Some(q));
     }
 
-    /// The rows after an offer of p to q, by whether it was taken.
-    pub(crate) fn settle(&mut self, p: u8, q: u8, taken: bool)
+    /// An offer of p to q that is not taken.
+    pub(crate) fn refuse(&mut self, p: u8, q: u8)
+        requires have_rows { (p < 32) × (q < 32) }
+        ensures is_not_taken { state_of self.new ≡ offered (state_of self.old) p q false }
+    {
+        self.join(p, q);
+        self.lose(p, q);
+    }
+
+    /// An offer of p to q that is taken.
+    pub(crate) fn accept(&mut self, p: u8, q: u8)
         requires have_rows { (p < 32) × (q < 32) }
         requires partners_have_rows { IfSome ((state_of self.old).holding p) (λ x. x < 32) × IfSome ((state_of self.old).holding q) (λ x. x < 32) }
-        ensures settled { state_of self.new ≡ offered (state_of self.old) p q taken }
+        ensures is_taken { state_of self.new ≡ offered (state_of self.old) p q true }
     {
         let held_by_p = self.row(p).holding;
         let held_by_q = self.row(q).holding;
         self.join(p, q);
-        if taken {
-            self.leave(p, held_by_p);
-            self.leave(q, held_by_q);
-            self.pair_up(p, q);
-        } else {
-            self.lose(p, q);
-        }
+        self.leave(p, held_by_p);
+        self.leave(q, held_by_q);
+        self.pair_up(p, q);
     }
 }

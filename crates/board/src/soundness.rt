@@ -7,7 +7,6 @@ ghost use Rattle.ranking.specs.Stability.{holds};
 ghost use Rattle.board.specs.Kept.{offer_between, held_right, open_right, sides_right, kept_at, Kept};
 ghost use Rattle.board.specs.Meaning.{state_of, market_in};
 
-use crate::procedure::is_party;
 use crate::rank_table::RankTable;
 use crate::rows::{Rows, other_side};
 use sets::Members;
@@ -33,7 +32,7 @@ impl Unchecked<'_> {
         requires have_rows { (a < 32) × (b < 32) }
         ensures is_the_test { let σ = state_of self.entry.rows.now in result ≡ (holds σ.holding b a && (is_some ((market_in self.entry.ranks.now).rank a b) && (σ.opens a b && offer_between σ a b))) }
     {
-        is_party(self.rows.row(b).holding, a)
+        self.rows.row(b).holding == Some(a)
             && self.ranks.rank(a, b).is_some()
             && self.rows.row(a).open_set.contains(b)
             && self.offer_between(a, b)

@@ -1,7 +1,8 @@
-use Rattle.std.proofs.Common.{◌≡◌, ℕ, ◌*◌, ◌<◌, ◌≤◌, IfSome, None, Option, sym, refl, ◌∙◌, subst, arith}
-use Rattle.std.proofs.lemmas.Nat.{mul-le}
+use Rattle.std.proofs.Common.{◌≡◌, Bool, true, false, refl, ◌<◌, IfSome, None, Option, ℕ, unwrap_or, is_some, if◌then◌else◌, sym, ◌∙◌, subst}
+use mir.Val.{bool_byte}
 use Rattle.board.specs.State.{State}
 use Rattle.board.specs.Sides.{party_count}
+use Rattle.board.specs.Offer.{wronged}
 use Rattle.board.specs.Turn.{Owed}
 use Rattle.board.specs.Turn.Turn.{idle}
 use Rattle.board.specs.Meaning.{market_in}
@@ -9,72 +10,50 @@ use Rattle.board.specs.Calls.{market_at, state_at}
 use Rattle.board.specs.declared.rank_table.RankTable.{RankTable}
 use Rattle.board.proofs.RankTables.{lawful_table}
 use Rattle.board.proofs.Partners.{wronged_below}
-use Rattle.board.proofs.Links.{turn_moves}
+use Rattle.board.proofs.Links.{turn_moves, turn_left, when_taken, when_not_taken}
 use Rattle.board.proofs.tables.Tables.turn.Goals as goal
-
--- s times g is at most 256
-small : (ranks : RankTable) → ranks.streams * ranks.lanes ≤ 256
-small ranks = mul-le ranks.streams ranks.lanes 16 16 ranks.sizes.1 ranks.sizes.3
 
 -- somebody is a party by these ranks
 abbrev Below : Option ℕ → RankTable → Type 0
 Below o r = IfSome o (λ x. x < party_count (market_in r))
 
-pub returns-in_default : goal.returns-in_default
-returns-in_default c = record {
-  turned = idle c.in_default.ensures.best_or_content;
-  has_few_offers = omega arith;
-  has_few_chains = omega arith;
-  ranks_unchanged = refl;
-  idle_changes_nothing = λ _. refl;
-}
+pub returns-in_default-clause-turned : goal.returns-in_default-clause-turned
+returns-in_default-clause-turned c = idle c.in_default.ensures.best_or_content
 
-pub owed-first_offers-requires : goal.owed-first_offers-requires
-owed-first_offers-requires c =
+pub owed-first-requires : goal.owed-first-requires
+owed-first-requires c =
     let t = c.args.self.now in
-    let offer = c.make_offer-offer.ensures in
-    record {
-      is_a_party = subst (Below c.make_offer-offer.result.wronged_by_q) (sym offer.ranks_unchanged)
-          (subst (λ o. Below o t.ranks) (sym offer.wronged_by_q_leaving) (wronged_below (market_at t) (lawful_table t.ranks) (state_at t) t.kept c.make_offer-offer.result.taken c.in-Some.other));
-    }
+    let (_, _, by) = when_taken (market_at t) None (state_at t) c.args.party c.in-Some.other _ _ c.in-Taken.ensures.taken_by_the_rule in
+    record { is_a_party = subst (Below c.in-Taken.wronged_by_q) (sym c.make_offer.ensures.ranks_unchanged) (subst (λ o. Below o t.ranks) (sym by) (wronged_below (market_at t) (lawful_table t.ranks) (state_at t) t.kept true c.in-Some.other)) }
 
-pub owed-second_offers-requires : goal.owed-second_offers-requires
-owed-second_offers-requires c =
+pub owed-second-requires : goal.owed-second-requires
+owed-second-requires c =
     let t = c.args.self.now in
-    let offer = c.make_offer-offer.ensures in
-    record {
-      is_a_party = subst (Below c.make_offer-offer.result.wronged_by_p) (sym (c.owed-first_offers.ensures.ranks_unchanged ∙ offer.ranks_unchanged))
-          (subst (λ o. Below o t.ranks) (sym offer.wronged_by_p_leaving) (wronged_below (market_at t) (lawful_table t.ranks) (state_at t) t.kept c.make_offer-offer.result.taken c.args.party));
-    }
+    let (_, by, _) = when_taken (market_at t) None (state_at t) c.args.party c.in-Some.other _ _ c.in-Taken.ensures.taken_by_the_rule in
+    record { is_a_party = subst (Below c.in-Taken.wronged_by_p) (sym (c.owed-first.ensures.ranks_unchanged ∙ c.make_offer.ensures.ranks_unchanged)) (subst (λ o. Below o t.ranks) (sym by) (wronged_below (market_at t) (lawful_table t.ranks) (state_at t) t.kept true c.args.party)) }
 
-pub overflow_add-result : goal.overflow_add-result
-overflow_add-result c = let a = c.owed-first_offers.ensures.has_few_offers in let b = c.owed-second_offers.ensures.has_few_offers in omega (arith, small c.make_offer-offer.new.self.ranks, small c.owed-first_offers.new.self.ranks)
+pub returns-in-NotTaken-clause-turned : goal.returns-in-NotTaken-clause-turned
+returns-in-NotTaken-clause-turned c =
+    let t = c.args.self.now in
+    let left = when_not_taken (market_at t) None (state_at t) c.args.party c.in-Some.other c.in-NotTaken.ensures.taken_by_the_rule in
+    turn_left (market_at t) (state_at t) (state_at c.make_offer.new.self) c.args.party c.in-Some.other c.in-Some.ensures.best_or_content left c.make_offer.ensures.board_after_it
 
-pub overflow_add-result-2 : goal.overflow_add-result-2
-overflow_add-result-2 c = let a = c.owed-first_offers.ensures.has_few_offers in let b = c.owed-second_offers.ensures.has_few_offers in omega (arith, small c.make_offer-offer.new.self.ranks, small c.owed-first_offers.new.self.ranks)
+one_if : (b : Bool) → bool_byte b ≡ (if b then 1 else 0)
+one_if true = refl
+one_if false = refl
 
 -- an owed chain by these ranks
-abbrev Ran : Option ℕ → Option ℕ → State → State → (offers chains : ℕ) → RankTable → Type 0
-Ran waiting wronged before after i c r = Owed (market_in r) waiting wronged before after i c × (i ≤ r.streams * r.lanes)
+abbrev Ran : Option ℕ → Option ℕ → State → State → Option ℕ → RankTable → Type 0
+Ran waiting wronged before after offers r = Owed (market_in r) waiting wronged before after (unwrap_or offers 0) (if is_some offers then 1 else 0)
 
-pub returns : goal.returns
-returns c =
+pub returns-in-Taken-clause-turned : goal.returns-in-Taken-clause-turned
+returns-in-Taken-clause-turned c =
     let t = c.args.self.now in
-    let offer = c.make_offer-offer.ensures in
-    let first = c.owed-first_offers in
-    let second = c.owed-second_offers in
-    let (ran, few) = subst (Ran c.make_offer-offer.result.wronged_by_p c.make_offer-offer.result.wronged_by_q (state_at c.make_offer-offer.new.self) (state_at first.new.self) first.result.0 first.result.1)
-    offer.ranks_unchanged (first.ensures.ran, first.ensures.has_few_offers.0) in
-    let (ran', few') = subst (Ran None c.make_offer-offer.result.wronged_by_p (state_at first.new.self) (state_at second.new.self) second.result.0 second.result.1)
-    (first.ensures.ranks_unchanged ∙ offer.ranks_unchanged) (second.ensures.ran, second.ensures.has_few_offers.0) in
-    let one = first.ensures.has_few_offers.1 in
-    let other = second.ensures.has_few_offers.1 in
-    record {
-      turned = turn_moves (market_at t) (state_at t) (state_at c.make_offer-offer.new.self) (state_at first.new.self) (state_at second.new.self) c.args.party c.in-Some.other
-          first.result.0 first.result.1 second.result.0 second.result.1 c.make_offer-offer.result.taken c.make_offer-offer.result.wronged_by_p c.make_offer-offer.result.wronged_by_q
-          c.in-Some.ensures.best_or_content offer.taken_by_the_rule offer.wronged_by_p_leaving offer.wronged_by_q_leaving offer.board_after_it ran ran';
-      has_few_offers = omega arith;
-      has_few_chains = omega arith;
-      ranks_unchanged = second.ensures.ranks_unchanged ∙ first.ensures.ranks_unchanged ∙ offer.ranks_unchanged;
-      idle_changes_nothing = λ e. absurd (let z : ◌≡◌ {A = ℕ} 0 1 = cc in omega arith);
-    }
+    let offer = c.make_offer.ensures in
+    let first = c.owed-first in
+    let second = c.owed-second in
+    let ran = subst (Ran c.in-Taken.wronged_by_p c.in-Taken.wronged_by_q (state_at c.make_offer.new.self) (state_at first.new.self) first.result) offer.ranks_unchanged first.ensures.ran in
+    let ran' = subst (Ran None c.in-Taken.wronged_by_p (state_at first.new.self) (state_at second.new.self) second.result) (first.ensures.ranks_unchanged ∙ offer.ranks_unchanged) second.ensures.ran in
+    rw (c.unwrap_or.ensures, c.unwrap_or-in-Taken.ensures, c.from.ensures, one_if c.is_some.result, c.is_some.ensures, c.from-in-Taken.ensures, one_if c.is_some-in-Taken.result, c.is_some-in-Taken.ensures)
+    (turn_moves (market_at t) (state_at t) (state_at c.make_offer.new.self) (state_at first.new.self) (state_at second.new.self) c.args.party c.in-Some.other _ _ _ _ c.in-Taken.wronged_by_p c.in-Taken.wronged_by_q c.in-Some.ensures.best_or_content
+    (when_taken (market_at t) None (state_at t) c.args.party c.in-Some.other _ _ c.in-Taken.ensures.taken_by_the_rule) offer.board_after_it ran ran')
