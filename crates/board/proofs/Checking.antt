@@ -6,7 +6,7 @@ use Rattle.std.proofs.lemmas.Bool.Decides.{nat_tests}
 use Rattle.sets.specs.Sets.{has}
 use Rattle.sets.proofs.Bits.{has_none}
 use Rattle.ranking.specs.Market.{Market, LawfulMarket}
-use Rattle.board.specs.Sides.{across}
+use Rattle.board.specs.Sides.{across, party_count}
 use Rattle.ranking.specs.Stability.{is_party, holds}
 use Rattle.board.specs.State.{State}
 use Rattle.board.specs.Kept.{held_right, open_right, sides_right, kept_at, Kept}
@@ -46,9 +46,12 @@ rows_kept m law rows f a b = ⊎_elim (λ l. f a l b) past (cases_lt a 32)
         (ap (λ (r : Row). has r.bidders.0 b) none ∙ has_none b)
         (past_across m a b law.sized.1 law.sized.3 h)
 
--- of one pair: not across, or right
-pub pair_right : (c x : Bool) → c ≡ false → (not c || x) ≡ true
-pair_right c x e = grind arith
+-- the pair of anybody and a number that is no party's is right
+pub no_party : (m : Market) (σ : State) (a b : ℕ) → party_count m ≤ b → open_right m σ a b ≡ true
+no_party m σ a b h = beside (across m a b) _ (past m a b h)
+  where
+    past : (m : Market) (a b : ℕ) → party_count m ≤ b → across m a b ≡ false
+    past m a b h = grind (arith, nat_tests)
 
-pub pair_right_from : (c x : Bool) → x ≡ true → (not c || x) ≡ true
-pair_right_from c x e = grind arith
+    beside : (c x : Bool) → c ≡ false → (not c || x) ≡ true
+    beside c x e = grind arith

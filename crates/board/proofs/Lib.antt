@@ -16,3 +16,4 @@ mod Links
 mod Parties
 mod BoardPairings
 mod Checking
+mod Ranges

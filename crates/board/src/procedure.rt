@@ -236,12 +236,7 @@ impl Tables {
     pub(crate) fn is_standstill(&self) -> bool
         ensures says_whether { Decides result (Standstill (market_at self.now) (state_at self.now)) }
     {
-        for party in 0..self.ranks.parties() {
-            if !self.is_content(party) {
-                return false;
-            }
-        }
-        true
+        (0..self.ranks.parties()).all(|party| self.is_content(party))
     }
 
     /// The board's pairing: for each stream the lane that it holds, 255 for nobody, and 255 past the streams.

@@ -86,12 +86,7 @@ impl Unchecked<'_> {
         ensures says_whether { Decides result ((b : ℕ) → open_right (market_in self.entry.ranks.now) (state_of self.entry.rows.now) a b ≡ true) }
     {
         let others = self.facing(a);
-        for b in 0..self.ranks.parties() {
-            if others.contains(b) && !self.pair_is_right(a, b) {
-                return false;
-            }
-        }
-        true
+        (0..self.ranks.parties()).all(|b| !others.contains(b) || self.pair_is_right(a, b))
     }
 
     // Whether everything that every board keeps is right of a party.
@@ -106,11 +101,6 @@ impl Unchecked<'_> {
     pub(crate) fn is_kept(self) -> bool
         ensures says_whether { Decides result (Kept (market_in self.entry.ranks.now) (state_of self.entry.rows.now)) }
     {
-        for a in 0..32 {
-            if !self.party_is_right(a) {
-                return false;
-            }
-        }
-        true
+        (0..32).all(|a| self.party_is_right(a))
     }
 }
