@@ -1,7 +1,7 @@
 -- What every board keeps, checked party by party.
-use Rattle.std.proofs.Common.{◌≡◌, ℕ, ◌<◌, ◌≤◌, Bool, true, false, not, ◌&&◌, ◌||◌, ap, ◌∙◌, ⊎_elim, arith}
+use Rattle.std.proofs.Common.{◌≡◌, ℕ, ◌<◌, ◌≤◌, Bool, true, false, not, ◌&&◌, ◌||◌, Some, refl, ap, ◌∙◌, ⊎_elim, arith}
 use Rattle.std.proofs.lemmas.List.{get_or_past}
-use Rattle.std.proofs.lemmas.Bool.{and_parts, and_from, cases_lt}
+use Rattle.std.proofs.lemmas.Bool.{and_parts, and_from, cases_lt, eq-eqb}
 use Rattle.std.proofs.lemmas.Bool.Decides.{nat_tests}
 use Rattle.sets.specs.Sets.{has}
 use Rattle.sets.proofs.Bits.{has_none}
@@ -45,6 +45,15 @@ rows_kept m law rows f a b = ⊎_elim (λ l. f a l b) past (cases_lt a 32)
         (ap (λ (r : Row). has r.open_set.0 b) none ∙ has_none b)
         (ap (λ (r : Row). has r.bidders.0 b) none ∙ has_none b)
         (past_across m a b law.sized.1 law.sized.3 h)
+
+-- whoever holds a number past 31 is not held back, which is not right
+pub held_past : (m : Market) (rows : Rows) (a b : ℕ) → 32 ≤ b → (state_of rows).holding a ≡ Some b → held_right m (state_of rows) a b ≡ true → ⊥
+held_past m rows a b h e =
+    let none : row_of rows b ≡ no_row = get_or_past rows.rows b no_row (omega (arith, rows.one_each)) in
+    one_way (holds (state_of rows).holding a b) (holds (state_of rows).holding b a) _ (ap (λ o. is_party o b) e ∙ eq-eqb b b refl) (ap (λ (r : Row). is_party r.holding a) none)
+  where
+    one_way : (x y z : Bool) → x ≡ true → y ≡ false → (not x || (y && z)) ≡ true → ⊥
+    one_way x y z e f g = grind arith
 
 -- the pair of anybody and a number that is no party's is right
 pub no_party : (m : Market) (σ : State) (a b : ℕ) → party_count m ≤ b → open_right m σ a b ≡ true

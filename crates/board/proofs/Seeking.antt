@@ -1,6 +1,6 @@
 -- The search for the best ranked member of an open set, and what it says of who is content.
-use Rattle.std.proofs.Common.{◌≡◌, ℕ, ◌+◌, ◌<◌, ◌≤◌, Bool, true, false, cond, not, ◌&&◌, eqb, ltb, leb, is_some, Some, None, Option, sym, refl, ap, ◌∙◌, subst, ⊎_elim, arith}
-use Rattle.std.proofs.lemmas.Bool.{and_from, and_right, and_left, both_ways, cases_lt, cases_Bool, lt-ltb, le-ltb, ltb-true, ltb-false, eq-eqb, eqb-true}
+use Rattle.std.proofs.Common.{◌≡◌, ℕ, ◌+◌, ◌<◌, ◌≤◌, Bool, true, false, not, ◌&&◌, eqb, ltb, leb, is_some, Some, None, Option, sym, refl, ap, ◌∙◌, subst, ⊎_elim, arith}
+use Rattle.std.proofs.lemmas.Bool.{and_from, and_right, and_left, both_ways, cases_lt, cases_Bool, lt-ltb, eq-eqb, eqb-true}
 use Rattle.std.proofs.lemmas.Bool.Decides.{nat_tests}
 use Rattle.ranking.specs.Market.{Market, prefers, LawfulMarket}
 use Rattle.board.specs.Sides.{across}
@@ -8,7 +8,6 @@ use Rattle.ranking.specs.Stability.{is_party, rank_of, held_rank, wants}
 use Rattle.ranking.proofs.Blocking.{prefers_same}
 use Rattle.board.specs.State.{State, Content, Best}
 use Rattle.board.specs.Kept.{Kept}
-use Rattle.board.specs.RankTables.{rank_from}
 use Rattle.board.specs.Calls.{BestOpen, Sought}
 use Rattle.std.specs.Option.{option_eq}
 use Rattle.std.specs.Bool.{then_some}
@@ -42,23 +41,6 @@ strictly_better (Some k) (Some l) e f d n = ⊎_elim (λ (h : k < l). lt-ltb k l
   where
     again : l ≤ k → ⊥
     again h = ⊎_elim (λ (i : l < k). both_ways (ltb l k) n (lt-ltb l k i)) (λ (i : k ≤ l). d l (ap Some (let s : k ≡ l = omega arith in s)) refl) (cases_lt l k)
-
--- of two numbers of a table, the lower is the better rank, and a number that is not lower is not
-pub lower_better : (rank lowest : ℕ) → lowest ≤ 65536 → rank < lowest → prefers (rank_from rank) (rank_from lowest) ≡ true
-lower_better rank lowest h l =
-    ap (λ b. prefers (cond b (Some rank) None) (rank_from lowest)) (lt-ltb rank 65536 (omega arith)) ∙ go (ltb lowest 65536)
-  where
-    go : (b : Bool) → prefers (Some rank) (cond b (Some lowest) None) ≡ true
-    go true = lt-ltb rank lowest l
-    go false = refl
-
-pub not_lower_not_better : (rank lowest : ℕ) → lowest ≤ 65536 → lowest ≤ rank → prefers (rank_from rank) (rank_from lowest) ≡ false
-not_lower_not_better rank lowest h l = go (ltb rank 65536) (ltb lowest 65536) refl refl
-  where
-    go : (b c : Bool) → ltb rank 65536 ≡ b → ltb lowest 65536 ≡ c → prefers (cond b (Some rank) None) (cond c (Some lowest) None) ≡ false
-    go false c e f = refl
-    go true true e f = le-ltb rank lowest l
-    go true false e f = absurd (let x = ltb-true rank 65536 e in let y = ltb-false lowest 65536 f in omega arith)
 
 -- what was found among the parties below n
 abbrev FoundAt : Market → State → ℕ → Option ℕ → Option ℕ → Type 0

@@ -11,7 +11,7 @@ ghost use Rattle.board.specs.Kept.{Kept};
 ghost use Rattle.board.specs.Calls.{market_at, state_at, Sought, BestOpen, answer_to, tally_of, lane_byte, pairing_at};
 ghost use Rattle.board.specs.Meaning.{state_of, market_in};
 
-use crate::rank_table::{NO_RANK, RankTable};
+use crate::rank_table::RankTable;
 use crate::rows::{MOST_STREAMS, Rows};
 use crate::soundness::Unchecked;
 use crate::tables::Tables;
@@ -90,11 +90,11 @@ impl Tables {
         let open = self.rows.row(party).open_set;
         let (first, end) = self.ranks.other_parties(party);
         let mut found = None;
-        let mut lowest = NO_RANK;
+        let mut best = None;
         for other in first..end {
-            let rank = self.ranks.number(party, other);
-            if rank < lowest && open.contains(other) {
-                lowest = rank;
+            let rank = self.ranks.rank(party, other);
+            if is_better(rank, best) && open.contains(other) {
+                best = rank;
                 found = Some(other);
             }
         }

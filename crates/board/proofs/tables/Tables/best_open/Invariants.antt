@@ -1,8 +1,6 @@
-use Rattle.std.proofs.Common.{◌≤◌}
-use Rattle.board.specs.RankTables.{rank_from}
 use Rattle.board.specs.Calls.{market_at, state_at}
 use Rattle.board.proofs.Seeking.{Found}
 use Rattle.board.proofs.tables.Tables.best_open.Given as goal
 
 abbrev pub invariant-loop-other : goal.invariant-loop-other
-invariant-loop-other l = Found (market_at l.self) (state_at l.self) l.party l.other l.found (rank_from l.lowest) × (l.lowest ≤ 65536)
+invariant-loop-other l = Found (market_at l.self) (state_at l.self) l.party l.other l.found l.best
