@@ -3,7 +3,8 @@
 ghost use Rattle.std.specs.Prelude.{◌≡◌, ℕ, ◌+◌, ◌*◌, ◌<◌, ◌≤◌, Bool, true, false, ◌&&◌, take, is_some, IfSome, Decides, MatchOption, unwrap_or, if◌then◌else◌, nat_le, nat_lt, slice_index};
 ghost use Rattle.ranking.specs.Market.{market_of};
 ghost use Rattle.board.specs.Sides.{party_count, across};
-ghost use Rattle.ranking.specs.Stability.{held_rank};
+ghost use Rattle.ranking.specs.Stability.{held_rank, Stable};
+ghost use Rattle.ranking.specs.Pairings.{LawfulPairing, holding_of};
 ghost use Rattle.board.specs.State.{new_state, Content, Standstill, Best};
 ghost use Rattle.board.specs.Offer.{offered, takes, wronged};
 ghost use Rattle.board.specs.Turn.{Chain, Owed, Turn};
@@ -235,6 +236,7 @@ impl Tables {
     /// Whether every party is content.
     pub(crate) fn is_standstill(&self) -> bool
         ensures says_whether { Decides result (Standstill (market_at self.now) (state_at self.now)) }
+        ensures standstill_is_stable { let m = market_at self.now in (result ≡ true → Stable m (holding_of m (pairing_at m (state_at self.now)))) }
     {
         (0..self.ranks.parties()).all(|party| self.is_content(party))
     }
@@ -243,6 +245,8 @@ impl Tables {
     pub(crate) fn pairing(&self) -> [u8; MOST_STREAMS]
         ensures is_the_pairing { let m = market_at self.now in take m.streams result ≡ pairing_at m (state_at self.now) }
         ensures has_nobody_past_the_streams { (i : ℕ) → (market_at self.now).streams ≤ i → i < 16 → slice_index result i ≡ 255 }
+        ensures is_a_lawful_pairing { let m = market_at self.now in LawfulPairing m (take m.streams result) }
+        ensures holds_as_the_board { let m = market_at self.now in holding_of m (take m.streams result) ≡ (state_at self.now).holding }
     {
         let streams = self.ranks.streams;
         let mut lanes = [NOBODY; MOST_STREAMS];
