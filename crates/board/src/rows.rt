@@ -28,15 +28,17 @@ pub struct Rows {
     ghost one_each: { length rows ≡ 32 },
 }
 
-/// The parties of the other side of a party's.
+/// The parties of the other side of a party's; nobody for a number that is no party's.
 pub(crate) fn other_side(streams: u8, lanes: u8, party: u8) -> Members
-    requires there_are_few { (streams ≤ 16) × (lanes ≤ 16) × (party < streams + lanes) }
+    requires there_are_few { (streams ≤ 16) × (lanes ≤ 16) }
     ensures is_the_other_side { (m : Market) → m.streams ≡ streams → m.lanes ≡ lanes → (j : ℕ) → has result.0 j ≡ across m party j }
 {
     if party < streams {
         Members::range(streams, streams + lanes)
-    } else {
+    } else if party < streams + lanes {
         Members::range(0, streams)
+    } else {
+        Members::none()
     }
 }
 

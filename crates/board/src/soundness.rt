@@ -60,14 +60,10 @@ impl Unchecked<'_> {
     }
 
     // The parties of the other side of a party's; nobody for a number that is no party's.
-    fn facing(self, a: u8) -> Members
+    fn other_side(self, a: u8) -> Members
         ensures is_the_other_side { (j : ℕ) → has result.0 j ≡ across (market_in self.entry.ranks.now) a j }
     {
-        if a < self.ranks.parties() {
-            other_side(self.ranks.streams, self.ranks.lanes, a)
-        } else {
-            Members::none()
-        }
+        other_side(self.ranks.streams, self.ranks.lanes, a)
     }
 
     // Whether the members of a party's open set and its bidders stand on the other side.
@@ -75,7 +71,7 @@ impl Unchecked<'_> {
         requires has_a_row { a < 32 }
         ensures says_whether { Decides result ((b : ℕ) → sides_right (market_in self.entry.ranks.now) (state_of self.entry.rows.now) a b ≡ true) }
     {
-        let others = self.facing(a);
+        let others = self.other_side(a);
         let row = self.rows.row(a);
         row.open_set.is_within(others) && row.bidders.is_within(others)
     }
@@ -85,7 +81,7 @@ impl Unchecked<'_> {
         requires has_a_row { a < 32 }
         ensures says_whether { Decides result ((b : ℕ) → open_right (market_in self.entry.ranks.now) (state_of self.entry.rows.now) a b ≡ true) }
     {
-        let others = self.facing(a);
+        let others = self.other_side(a);
         (0..self.ranks.parties()).all(|b| !others.contains(b) || self.pair_is_right(a, b))
     }
 

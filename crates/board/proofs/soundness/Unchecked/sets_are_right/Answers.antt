@@ -14,7 +14,7 @@ pub returns-then-is_within : goal.returns-then-is_within
 returns-then-is_within c =
     let open_is = λ (b : ℕ). ap (λ (r : Row). has r.open_set.0 b) c.row-row.ensures.is_the_row in
     let bidders-are = λ (b : ℕ). ap (λ (r : Row). has r.bidders.0 b) c.row-row.ensures.is_the_row in
-    let others = c.facing-others.ensures.is_the_other_side in
+    let others = c.other_side-others.ensures.is_the_other_side in
     let first = c.if-is_within.ensures.says_whether.0 refl in
     let second = c.is_within-then-is_within.ensures.says_whether in
     record {
