@@ -63,7 +63,7 @@ impl Tables {
         ensures is_new { state_at result ≡ new_state (market_of (R.meaning ranking.now)) }
     {
         let ranks = RankTable::of(ranking);
-        let rows = Rows::new(ranks.streams, ranks.lanes);
+        let rows = Rows::new(&ranks);
         Tables { ranks, rows }
     }
 

@@ -1,6 +1,7 @@
 ghost use Rattle.std.specs.Prelude.{◌≡◌, ℕ, ◌+◌, ◌<◌, ◌≤◌};
 ghost use Rattle.ranking.specs.Market.{market_of};
-ghost use Rattle.board.specs.Sides.{party_count};
+ghost use Rattle.sets.specs.Sets.{has};
+ghost use Rattle.board.specs.Sides.{party_count, across};
 ghost use Rattle.board.specs.RankTables.{ranks_by, table_of};
 ghost use Rattle.record.specs.Refusals.{refused_by};
 ghost use Rattle.board.specs.Meaning.{market_in};
@@ -10,6 +11,7 @@ use crate::rank_table::RankTable;
 use crate::rows::MOST_PARTIES;
 use ranking::interface::{Ranking, rank_between};
 use record::refusal::Refusal;
+use sets::Members;
 use std::array;
 
 // The ranks that a party gives the others.
@@ -48,6 +50,19 @@ impl RankTable {
         ensures is_the_count { (result ≡ party_count (market_in self.now)) × (result ≤ 32) }
     {
         self.streams + self.lanes
+    }
+
+    /// The parties of the other side of a party's; nobody for a number that is no party's.
+    pub(crate) fn other_side(&self, party: u8) -> Members
+        ensures is_the_other_side { (j : ℕ) → has result.0 j ≡ across (market_in self.now) party j }
+    {
+        if party < self.streams {
+            Members::range(self.streams, self.parties())
+        } else if party < self.parties() {
+            Members::range(0, self.streams)
+        } else {
+            Members::none()
+        }
     }
 
     /// Refuses 6 where a party is not below s + g.

@@ -1,10 +1,8 @@
 ghost use Rattle.std.specs.Prelude.{◌≡◌, ℕ, ◌+◌, ◌<◌, ◌≤◌, true, false, length, IfSome};
-ghost use Rattle.sets.specs.Sets.{has};
-ghost use Rattle.ranking.specs.Market.{Market};
-ghost use Rattle.board.specs.Sides.{across};
 ghost use Rattle.board.specs.State.{new_state};
 ghost use Rattle.board.specs.Offer.{with_holding, joins, loses, leaves, pairs_up, offered};
 
+use crate::rank_table::RankTable;
 use sets::Members;
 
 /// The most streams.
@@ -28,27 +26,12 @@ pub struct Rows {
     ghost one_each: { length rows ≡ 32 },
 }
 
-/// The parties of the other side of a party's; nobody for a number that is no party's.
-pub(crate) fn other_side(streams: u8, lanes: u8, party: u8) -> Members
-    requires there_are_few { (streams ≤ 16) × (lanes ≤ 16) }
-    ensures is_the_other_side { (m : Market) → m.streams ≡ streams → m.lanes ≡ lanes → (j : ℕ) → has result.0 j ≡ across m party j }
-{
-    if party < streams {
-        Members::range(streams, streams + lanes)
-    } else if party < streams + lanes {
-        Members::range(0, streams)
-    } else {
-        Members::none()
-    }
-}
-
 impl Rows {
-    ghost use Rattle.board.specs.Meaning.{row_of, state_of};
+    ghost use Rattle.board.specs.Meaning.{row_of, state_of, market_in};
 
     /// The rows of a new board: nobody holds anybody, every open set is the whole other side, and there are no bidders.
-    pub(crate) fn new(streams: u8, lanes: u8) -> Rows
-        requires there_are_few { (streams ≤ 16) × (lanes ≤ 16) }
-        ensures are_new { (m : Market) → m.streams ≡ streams → m.lanes ≡ lanes → state_of result ≡ new_state m }
+    pub(crate) fn new(ranks: &RankTable) -> Rows
+        ensures are_new { state_of result ≡ new_state (market_in ranks.now) }
     {
         let empty = Row {
             holding: None,
@@ -56,8 +39,8 @@ impl Rows {
             bidders: Members::none(),
         };
         let mut rows = [empty; MOST_PARTIES];
-        for party in 0..streams + lanes {
-            rows[party as usize].open_set = other_side(streams, lanes, party);
+        for party in 0..ranks.parties() {
+            rows[party as usize].open_set = ranks.other_side(party);
         }
         Rows { rows }
     }

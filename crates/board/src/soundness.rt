@@ -1,15 +1,12 @@
 //! Whether rows keep what every board keeps.
 
 ghost use Rattle.std.specs.Prelude.{◌≡◌, ℕ, ◌+◌, ◌<◌, ◌≤◌, Bool, true, false, not, ◌&&◌, ◌||◌, is_some, Decides};
-ghost use Rattle.sets.specs.Sets.{has};
-ghost use Rattle.board.specs.Sides.{across};
 ghost use Rattle.ranking.specs.Stability.{holds};
 ghost use Rattle.board.specs.Kept.{offer_between, held_right, open_right, sides_right, kept_at, Kept};
 ghost use Rattle.board.specs.Meaning.{state_of, market_in};
 
 use crate::rank_table::RankTable;
-use crate::rows::{Rows, other_side};
-use sets::Members;
+use crate::rows::Rows;
 
 /// Ranks, and rows of which it is not known yet whether they keep what every board keeps.
 #[derive(Clone, Copy)]
@@ -43,6 +40,7 @@ impl Unchecked<'_> {
         requires has_a_row { a < 32 }
         ensures says_whether { Decides result ((b : ℕ) → held_right (market_in self.entry.ranks.now) (state_of self.entry.rows.now) a b ≡ true) }
     {
+        // a `match`, since of `is_none_or` with this closure no proof was found without a long lemma
         match self.rows.row(a).holding {
             Some(b) => b < 32 && self.partner_is_right(a, b),
             None => true,
@@ -59,19 +57,12 @@ impl Unchecked<'_> {
             || (self.rows.row(b).open_set.contains(a) && self.offer_between(a, b))
     }
 
-    // The parties of the other side of a party's; nobody for a number that is no party's.
-    fn other_side(self, a: u8) -> Members
-        ensures is_the_other_side { (j : ℕ) → has result.0 j ≡ across (market_in self.entry.ranks.now) a j }
-    {
-        other_side(self.ranks.streams, self.ranks.lanes, a)
-    }
-
     // Whether the members of a party's open set and its bidders stand on the other side.
     fn sets_are_right(self, a: u8) -> bool
         requires has_a_row { a < 32 }
         ensures says_whether { Decides result ((b : ℕ) → sides_right (market_in self.entry.ranks.now) (state_of self.entry.rows.now) a b ≡ true) }
     {
-        let others = self.other_side(a);
+        let others = self.ranks.other_side(a);
         let row = self.rows.row(a);
         row.open_set.is_within(others) && row.bidders.is_within(others)
     }
@@ -81,7 +72,7 @@ impl Unchecked<'_> {
         requires has_a_row { a < 32 }
         ensures says_whether { Decides result ((b : ℕ) → open_right (market_in self.entry.ranks.now) (state_of self.entry.rows.now) a b ≡ true) }
     {
-        let others = self.other_side(a);
+        let others = self.ranks.other_side(a);
         (0..self.ranks.parties()).all(|b| !others.contains(b) || self.pair_is_right(a, b))
     }
 
