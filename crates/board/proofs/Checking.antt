@@ -1,7 +1,7 @@
 -- What every board keeps, checked party by party.
 use Rattle.std.proofs.Common.{◌≡◌, ℕ, ◌<◌, ◌≤◌, Bool, true, false, not, ◌&&◌, ◌||◌, Some, refl, ap, ◌∙◌, ⊎_elim, arith}
 use Rattle.std.proofs.lemmas.List.{get_or_past}
-use Rattle.std.proofs.lemmas.Bool.{and_parts, and_from, cases_lt, eq-eqb}
+use Rattle.std.proofs.lemmas.Bool.{and_parts, cases_lt, eq-eqb}
 use Rattle.std.proofs.lemmas.Bool.Decides.{nat_tests}
 use Rattle.sets.specs.Sets.{has}
 use Rattle.sets.proofs.Bits.{has_none}
@@ -20,12 +20,6 @@ module _ (m : Market) (σ : State) (a : ℕ) where
 
   pub open_part : ((b : ℕ) → kept_at m σ a b ≡ true) → (b : ℕ) → open_right m σ a b ≡ true
   open_part f b = (and_parts (open_right m σ a b) (sides_right m σ a b) (and_parts (held_right m σ a b) (open_right m σ a b && sides_right m σ a b) (f b)).1).0
-
-  pub sides_part : ((b : ℕ) → kept_at m σ a b ≡ true) → (b : ℕ) → sides_right m σ a b ≡ true
-  sides_part f b = (and_parts (open_right m σ a b) (sides_right m σ a b) (and_parts (held_right m σ a b) (open_right m σ a b && sides_right m σ a b) (f b)).1).1
-
-  pub all_parts : ((b : ℕ) → held_right m σ a b ≡ true) → ((b : ℕ) → open_right m σ a b ≡ true) → ((b : ℕ) → sides_right m σ a b ≡ true) → (b : ℕ) → kept_at m σ a b ≡ true
-  all_parts f g h b = and_from (held_right m σ a b) (open_right m σ a b && sides_right m σ a b) (f b) (and_from (open_right m σ a b) (sides_right m σ a b) (g b) (h b))
 
 -- a number that has no row holds nobody and has no sets
 no_row_lem : (h o bid c : Bool) (x y z : Bool) → h ≡ false → o ≡ false → bid ≡ false → c ≡ false → ((not h || x) && ((not c || y) && (not (o || bid) || z))) ≡ true

@@ -99,13 +99,13 @@ when_taken m waiting σ p q byP byQ = go (takes m waiting σ p q)
   where
     go : (t : Bool) → Offered.Taken byP byQ ≡ cond t (Offered.Taken (wronged σ true p) (wronged σ true q)) Offered.NotTaken → (t ≡ true) × (byP ≡ wronged σ true p) × (byQ ≡ wronged σ true q)
     go true e = (refl, cc, cc)
-    go false e = absurd (let z : ◌≡◌ {A = ℕ} 0 1 = cc in omega arith)
+    go false e = (cc, cc, cc)
 
 pub when_not_taken : (m : Market) (waiting : Option ℕ) (σ : State) (p q : ℕ) → Offered.NotTaken ≡ answer_to m waiting σ p q → takes m waiting σ p q ≡ false
 when_not_taken m waiting σ p q = go (takes m waiting σ p q)
   where
     go : (t : Bool) → Offered.NotTaken ≡ cond t (Offered.Taken (wronged σ true p) (wronged σ true q)) Offered.NotTaken → t ≡ false
-    go true e = absurd (let z : ◌≡◌ {A = ℕ} 0 1 = cc in omega arith)
+    go true e = cc
     go false e = refl
 
 -- a turn whose offer is taken, by what its chains came to

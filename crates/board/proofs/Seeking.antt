@@ -1,6 +1,6 @@
 -- The search for the best ranked member of an open set, and what it says of who is content.
 use Rattle.std.proofs.Common.{◌≡◌, ℕ, ◌+◌, ◌<◌, ◌≤◌, Bool, true, false, not, ◌&&◌, eqb, ltb, leb, is_some, Some, None, Option, sym, refl, ap, ◌∙◌, subst, ⊎_elim, arith}
-use Rattle.std.proofs.lemmas.Bool.{and_from, and_right, and_left, both_ways, cases_lt, cases_Bool, lt-ltb, eq-eqb, eqb-true}
+use Rattle.std.proofs.lemmas.Bool.{false_from_ne_true, and_from, and_right, and_left, both_ways, cases_lt, cases_Bool, lt-ltb, eq-eqb, eqb-true}
 use Rattle.std.proofs.lemmas.Bool.Decides.{nat_tests}
 use Rattle.ranking.specs.Market.{Market, prefers, LawfulMarket}
 use Rattle.board.specs.Sides.{across}
@@ -11,7 +11,7 @@ use Rattle.board.specs.Kept.{Kept}
 use Rattle.board.specs.Calls.{BestOpen, Sought}
 use Rattle.std.specs.Option.{option_eq}
 use Rattle.std.specs.Bool.{then_some}
-use Rattle.board.proofs.Keeping.{held_facts, not_so, ranked_across}
+use Rattle.board.proofs.Keeping.{held_facts, ranked_across}
 
 -- Ranks in order.
 better_ranked : (a b : Option ℕ) → prefers a b ≡ true → is_some a ≡ true
@@ -54,7 +54,7 @@ pub record Found (m : Market) (σ : State) (p n : ℕ) (found lowest : Option �
 module _ (m : Market) (law : LawfulMarket m) (σ : State) (p : ℕ) where
   -- who does not face p has no rank with it
   pub beside : (r : ℕ) → across m p r ≡ false → is_some (m.rank p r) ≡ false
-  beside r e = not_so (is_some (m.rank p r)) (λ h. both_ways (across m p r) e (ranked_across m law p r h))
+  beside r e = false_from_ne_true (is_some (m.rank p r)) (λ h. both_ways (across m p r) e (ranked_across m law p r h))
 
   pub found_none : (first end : ℕ) → ((j : ℕ) → across m p j ≡ (leb first j && ltb j end)) → Found m σ p first None None
   found_none first end h = record { least = λ r l _. never_better (m.rank p r) None (beside r (h r ∙ below first end r l)); is = refl }
