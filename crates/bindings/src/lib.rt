@@ -2,7 +2,7 @@
 #![tactic(auto)]
 
 use board::board::Board;
-use board::rows::{MOST_PARTIES, Rows};
+use board::rows::{MOST_PARTIES, Row, Rows};
 use board::turned::Turned;
 use ranking::figures::{LaneFigures, StreamFigures};
 use ranking::interface::Ranking;
@@ -42,28 +42,26 @@ fn mask_of(members: Members) -> u32 {
     mask
 }
 
-// The rows of a given start, if it has 96 words and every holding is a byte.
+// The rows of a given start, if it has 96 words and every holding is a byte; 255 is nobody.
 fn rows_of(start: &[u32]) -> Option<Rows> {
     if start.len() != START {
         return None;
     }
-    let mut holdings = [255u8; MOST_PARTIES];
-    let mut open_sets = [Members::none(); MOST_PARTIES];
-    let mut bidders = [Members::none(); MOST_PARTIES];
-    for k in 0..MOST_PARTIES {
-        let held = start[k];
-        if held > 255 {
-            return None;
-        }
-        holdings[k] = held as u8;
-        open_sets[k] = members_of(start[32 + k]);
-        bidders[k] = members_of(start[64 + k]);
+    let nobody = Row {
+        holding: None,
+        open_set: Members::none(),
+        bidders: Members::none(),
+    };
+    let mut rows = [nobody; MOST_PARTIES];
+    for (party, row) in rows.iter_mut().enumerate() {
+        let held = u8::try_from(start[party]).ok()?;
+        *row = Row {
+            holding: (held != 255).then_some(held),
+            open_set: members_of(start[32 + party]),
+            bidders: members_of(start[64 + party]),
+        };
     }
-    Some(Rows {
-        holdings,
-        open_sets,
-        bidders,
-    })
+    Some(Rows { rows })
 }
 
 // What a question of one party answered, and the same for one that was refused.

@@ -3,6 +3,7 @@ use Rattle.std.proofs.Common.{◌≡◌, ℕ, ◌+◌, ◌-◌, ◌<◌, ◌≤�
 use mathlib.Core.Path.{fun_ext}
 use Rattle.std.proofs.lemmas.List.FromFn.{length-map-range_with_len, get_or-map-range_with_len}
 use Rattle.std.proofs.lemmas.List.{ext_get_or, get_or-take, length-take-le}
+use Rattle.std.proofs.lemmas.Option.{same_Some}
 use Rattle.std.proofs.lemmas.Bool.{lt-ltb, le-ltb, cond-true, cond-false, cases_lt, both_ways}
 use Rattle.record.specs.Lists.{place_in}
 use Rattle.record.proofs.Lists.{among_from, among_place, place_at_lem}
@@ -65,16 +66,13 @@ module _ (m : Market) (law : LawfulMarket m) (σ : State) (kept : Kept m σ) whe
           let b : get_or (pairing_at m σ) i 0 ≡ q - m.streams = byte_at i h ∙ ap (lane_byte m.streams) e in
           inl (omega arith)
 
-      some_same : (a b : ℕ) → Some a ≡ Some b → a ≡ b
-      some_same a b e = cc
-
       once : (i j : ℕ) → i < m.streams → j < m.streams → get_or (pairing_at m σ) i 0 < m.lanes → get_or (pairing_at m σ) i 0 ≡ get_or (pairing_at m σ) j 0 → i ≡ j
       once i j h k l e =
           let x : ℕ = m.streams + get_or (pairing_at m σ) i 0 in
           let a = (partners i x (told i h l)).1 in
           let same : m.streams + get_or (pairing_at m σ) j 0 ≡ x = ap (λ b. m.streams + b) (sym e) in
           let b = (partners j x (told j k (omega arith) ∙ ap Some same)).1 in
-          some_same i j (sym a ∙ b)
+          same_Some i j (sym a ∙ b)
 
   holds_as : (p : ℕ) → holding_of m (pairing_at m σ) p ≡ σ.holding p
   holds_as p = ⊎_elim stream lane_or_none (cases_lt p m.streams)

@@ -1,6 +1,6 @@
 -- Every offer keeps what every board keeps.
 use Rattle.std.proofs.Common.{◌≡◌, ℕ, ◌<◌, Bool, true, false, not, ◌&&◌, ◌||◌, is_some as option_is_some, Some, None, Option, sym, refl, ap, ◌∙◌, arith}
-use Rattle.std.proofs.lemmas.Bool.{and_parts, and_from, both_ways, eqb-true}
+use Rattle.std.proofs.lemmas.Bool.{false_from_ne_true, and_parts, and_from, both_ways, eqb-true}
 use Rattle.std.proofs.lemmas.Bool.Decides.{nat_tests}
 use Rattle.ranking.specs.Market.{Market, LawfulMarket}
 use Rattle.board.proofs.Sides.{sides_law}
@@ -127,10 +127,6 @@ some_is (Some k) e = (k, refl)
 is_some : (o : Option ℕ) (k : ℕ) → o ≡ Some k → option_is_some o ≡ true
 is_some o k e = ap option_is_some e
 
-pub not_so : (x : Bool) → (x ≡ true → ⊥) → x ≡ false
-not_so true f = absurd (f refl)
-not_so false f = refl
-
 -- who is ranked stands on the other side
 pub ranked_across : (m : Market) → LawfulMarket m → (p q : ℕ) → option_is_some (m.rank p q) ≡ true → across m p q ≡ true
 ranked_across m law p q e = let (k, s) = some_is (m.rank p q) e in sides_law m law p q k s
@@ -154,7 +150,7 @@ module _ (m : Market) (law : LawfulMarket m) (σ : State) (kept : Kept m σ) whe
       let (opened, wanted) = and_parts (σ.opens p q) (wants m σ.holding p q) e in
       let ranked = wanted_ranked m σ.holding p q wanted in
       let sides = ranked_across m law p q ranked in
-      let unheld : holds σ.holding p q ≡ false = not_so (holds σ.holding p q) (λ h. both_ways _ (held_unwanted m σ.holding p q h) wanted) in
+      let unheld : holds σ.holding p q ≡ false = false_from_ne_true (holds σ.holding p q) (λ h. both_ways _ (held_unwanted m σ.holding p q h) wanted) in
       record {
         opened = opened;
         wanted = wanted;
@@ -162,12 +158,12 @@ module _ (m : Market) (law : LawfulMarket m) (σ : State) (kept : Kept m σ) whe
         sides = sides;
         apart = λ s. both_ways _ (ap (across m p) (sym s) ∙ across_self m p) sides;
         unheld = unheld;
-        unheld_back = not_so (holds σ.holding q p) (λ h. both_ways _ unheld (held_facts m σ kept q p h).back);
+        unheld_back = false_from_ne_true (holds σ.holding q p) (λ h. both_ways _ unheld (held_facts m σ kept q p h).back);
       }
 
   -- nobody holds itself
   pub alone : (p : ℕ) → holds σ.holding p p ≡ false
-  alone p = not_so (holds σ.holding p p) (λ h. both_ways _ (across_self m p) (ranked_across m law p p (held_facts m σ kept p p h).ranked))
+  alone p = false_from_ne_true (holds σ.holding p p) (λ h. both_ways _ (across_self m p) (ranked_across m law p p (held_facts m σ kept p p h).ranked))
 
 module _ (m : Market) (law : LawfulMarket m) (σ : State) (kept : Kept m σ) (p q : ℕ) (k : Offering m σ p q) where
   abbrev h : ℕ → ℕ → Bool

@@ -13,6 +13,6 @@ pub mod Listed
 pub mod Worked
 mod Partners
 mod Links
-mod Parties
 mod BoardPairings
 mod Checking
+mod Ranges

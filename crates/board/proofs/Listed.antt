@@ -1,6 +1,8 @@
 -- Markets of listed rankings are lawful.
 use Rattle.std.proofs.Common.{◌≡◌, ℕ, zero, suc, ◌+◌, ◌<◌, ◌≤◌, Bool, true, false, cond, ◌&&◌, ltb, leb, ◌⊎◌, List, [], ◌∷◌, length, get_or, Some, None, Option, sym, refl, ◌∙◌, subst, ⊎_elim, arith}
+use Rattle.std.proofs.lemmas.Option.{none-some}
 use Rattle.std.proofs.lemmas.Bool.{and_parts, ltb-true, leb-true}
+use Rattle.std.proofs.lemmas.Option.{none-some}
 use Rattle.std.proofs.lemmas.Bool.Decides.{nat_tests}
 use Rattle.record.specs.Format.{facing}
 use Rattle.record.specs.Lists.{every, place_in}
@@ -53,7 +55,7 @@ place_one q r k xs e f = sym (place_at_lem q xs k e).1 ∙ (place_at_lem r xs k 
 -- what a test gives where it passes
 when_passed : (b : Bool) (o : Option ℕ) (k : ℕ) → cond b o None ≡ Some k → (b ≡ true) × (o ≡ Some k)
 when_passed true o k e = (refl, e)
-when_passed false o k e = let z : ◌≡◌ {A = ℕ} 0 1 = cc in absurd (omega arith)
+when_passed false o k e = absurd (none-some k e)
 
 module _ (s g : ℕ) (rankings : List (List ℕ)) (right : lists_right s g rankings ≡ true) where
   placed : (p q k : ℕ) → place_in q (get_or rankings p []) ≡ Some k → (q < facing s g p) × (k ≤ 65535)

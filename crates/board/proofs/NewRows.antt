@@ -1,5 +1,5 @@
 -- The rows of a new board.
-use Rattle.std.proofs.Common.{◌≡◌, ℕ, ◌+◌, ◌<◌, Bool, false, ◌&&◌, ltb, List, length, set, replicate, None, sym, ap, ◌∙◌, ⊎_elim, arith}
+use Rattle.std.proofs.Common.{◌≡◌, ℕ, ◌+◌, ◌<◌, Bool, false, ◌&&◌, ltb, List, length, get_or, set, replicate, None, sym, refl, ap, ◌∙◌, ⊎_elim, arith}
 use mathlib.Core.Path.{fun_ext}
 use Rattle.std.proofs.lemmas.List.{get_or-set_same, get_or-set_other, get_or_past, get_or-replicate}
 use Rattle.std.proofs.lemmas.Bool.{cases_eq, cases_lt}
@@ -9,24 +9,31 @@ use Rattle.sets.specs.declared.Members.{Members}
 use Rattle.sets.proofs.Bits.{has_none}
 use Rattle.ranking.specs.Market.{Market}
 use Rattle.board.specs.Sides.{across}
-use Rattle.board.specs.Sides.{party_named}
 use Rattle.board.specs.State.{new_state}
-use Rattle.board.specs.Meaning.{no_members, in_set, held_in, state_of}
+use Rattle.board.specs.Meaning.{no_row, state_of}
+use Rattle.board.specs.declared.rows.Row.{Row}
+use Rattle.board.specs.declared.rows.Rows.{Rows}
 
--- where no set has a member, nobody is in any set
-pub empty_rows : (n : Members) → ((j : ℕ) → has n.0 j ≡ false) → (a b : ℕ) → in_set (replicate 32 n) a b ≡ false
-empty_rows n h a b = ⊎_elim
-    (λ l. ap (λ (s : Members). has s.0 b) (get_or-replicate 32 a n no_members l) ∙ h b)
-    (λ l. ap (λ (s : Members). has s.0 b) (get_or_past (replicate 32 n) a no_members l) ∙ has_none b)
+-- a row of a board whose open sets are set for the parties below k
+pub record NewRow (m : Market) (k a : ℕ) (row : Row) : Type 0 where
+  pub holding : row.holding ≡ None
+  pub opens : (b : ℕ) → has row.open_set.0 b ≡ (ltb a k && across m a b)
+  pub bidder : (b : ℕ) → has row.bidders.0 b ≡ false
+
+-- where all rows are one that holds nobody and has no members, nobody's open set is set
+pub empty_rows : (m : Market) (row : Row) → row.holding ≡ None → ((b : ℕ) → has row.open_set.0 b ≡ false) → ((b : ℕ) → has row.bidders.0 b ≡ false) → (a : ℕ) → NewRow m 0 a (get_or (replicate 32 row) a no_row)
+empty_rows m row e f g a = ⊎_elim
+    (λ l. rw (get_or-replicate 32 a row no_row l) (record { holding = e; opens = λ b. f b ∙ nobody_below a (across m a b); bidder = g }))
+    (λ l. rw (get_or_past (replicate 32 row) a no_row l) (record { holding = refl; opens = λ b. has_none b ∙ nobody_below a (across m a b); bidder = has_none }))
     (cases_lt a 32)
+  where
+    nobody_below : (a : ℕ) (b : Bool) → false ≡ (ltb a 0 && b)
+    nobody_below a b = grind (arith, nat_tests)
 
-pub nobody_below : (a : ℕ) (b : Bool) → false ≡ (ltb a 0 && b)
-nobody_below a b = grind (arith, nat_tests)
-
--- one more row is set
-pub one_row_more : (sets : List Members) (m : Market) (k : ℕ) (n : Members) → k < length sets → ((j : ℕ) → has n.0 j ≡ across m k j)
-    → ((a b : ℕ) → in_set sets a b ≡ (ltb a k && across m a b)) → (a b : ℕ) → in_set (set sets k n) a b ≡ (ltb a (k + 1) && across m a b)
-one_row_more sets m k n h f inv a b = ⊎_elim here there (cases_eq a k)
+-- one more open set is set
+pub one_row_more : (m : Market) (k : ℕ) (rows : List Row) (n : Members) → k < length rows → ((b : ℕ) → has n.0 b ≡ across m k b) → ((a : ℕ) → NewRow m k a (get_or rows a no_row))
+    → (a : ℕ) → NewRow m (k + 1) a (get_or (set rows k (record (get_or rows k no_row) { open_set = n })) a no_row)
+one_row_more m k rows n h f inv a = ⊎_elim here there (cases_eq a k)
   where
     first : (a k : ℕ) (x : Bool) → a ≡ k → x ≡ (ltb a (k + 1) && x)
     first a k x e = grind (arith, nat_tests)
@@ -34,28 +41,24 @@ one_row_more sets m k n h f inv a b = ⊎_elim here there (cases_eq a k)
     rest : (a k : ℕ) (x : Bool) → (a ≡ k → ⊥) → (ltb a k && x) ≡ (ltb a (k + 1) && x)
     rest a k x e = grind (arith, nat_tests)
 
-    here : a ≡ k → in_set (set sets k n) a b ≡ (ltb a (k + 1) && across m a b)
+    here : a ≡ k → NewRow m (k + 1) a (get_or (set rows k (record (get_or rows k no_row) { open_set = n })) a no_row)
     here e =
-        ap (λ x. in_set (set sets k n) x b) e
-        ∙ ap (λ (s : Members). has s.0 b) (get_or-set_same sets k n no_members h)
-        ∙ f b ∙ ap (λ x. across m x b) (sym e) ∙ first a k (across m a b) e
+        let r : Row = record (get_or rows k no_row) { open_set = n } in
+        let z : get_or (set rows k r) a no_row ≡ r = ap (λ x. get_or (set rows k r) x no_row) e ∙ get_or-set_same rows k r no_row h in
+        rw z (record { holding = (inv k).holding; opens = λ b. f b ∙ ap (λ x. across m x b) (sym e) ∙ first a k (across m a b) e; bidder = (inv k).bidder })
 
-    there : (a ≡ k → ⊥) → in_set (set sets k n) a b ≡ (ltb a (k + 1) && across m a b)
-    there e = ap (λ (s : Members). has s.0 b) (get_or-set_other sets k a n no_members e) ∙ inv a b ∙ rest a k (across m a b) e
+    there : (a ≡ k → ⊥) → NewRow m (k + 1) a (get_or (set rows k (record (get_or rows k no_row) { open_set = n })) a no_row)
+    there e =
+        let v = inv a in
+        rw (get_or-set_other rows k a (record (get_or rows k no_row) { open_set = n }) no_row e)
+        (record { holding = v.holding; opens = λ b. v.opens b ∙ rest a k (across m a b) e; bidder = v.bidder })
 
-all_across : (m : Market) (k a b : ℕ) → k ≡ m.streams + m.lanes → (ltb a k && across m a b) ≡ across m a b
-all_across m k a b e = grind (arith, nat_tests)
-
-nobody_held : (a : ℕ) → held_in (replicate 32 255) a ≡ None
-nobody_held a = ⊎_elim
-    (λ l. ap party_named (get_or-replicate 32 a 255 255 l))
-    (λ l. ap party_named (get_or_past (replicate 32 255) a 255 l))
-    (cases_lt a 32)
-
-pub new_rows : (sets : List Members) (m : Market) (k : ℕ) (n : Members) → k ≡ m.streams + m.lanes → ((j : ℕ) → has n.0 j ≡ false)
-    → ((a b : ℕ) → in_set sets a b ≡ (ltb a k && across m a b)) → state_of (record { holdings = replicate 32 255; open_sets = sets; bidders = replicate 32 n }) ≡ new_state m
-new_rows sets m k n e h inv = λ i. record {
-  holding = fun_ext nobody_held i;
-  opens = fun_ext (λ a. fun_ext (λ b. inv a b ∙ all_across m k a b e)) i;
-  bidder = fun_ext (λ a. fun_ext (λ b. empty_rows n h a b)) i;
+pub new_rows : (rows : Rows) (m : Market) (k : ℕ) → k ≡ m.streams + m.lanes → ((a : ℕ) → NewRow m k a (get_or rows.rows a no_row)) → state_of rows ≡ new_state m
+new_rows rows m k e inv = λ i. record {
+  holding = fun_ext (λ a. (inv a).holding) i;
+  opens = fun_ext (λ a. fun_ext (λ b. (inv a).opens b ∙ all_across m k a b e)) i;
+  bidder = fun_ext (λ a. fun_ext (inv a).bidder) i;
 }
+  where
+    all_across : (m : Market) (k a b : ℕ) → k ≡ m.streams + m.lanes → (ltb a k && across m a b) ≡ across m a b
+    all_across m k a b e = grind (arith, nat_tests)

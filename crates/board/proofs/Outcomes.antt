@@ -1,5 +1,6 @@
 -- A turn has one outcome: the best party, a chain, what is owed and a turn are each settled by the board.
 use Rattle.std.proofs.Common.{◌≡◌, ℕ, suc, ◌+◌, Bool, true, false, ◌↔◌, Some, None, Option, sym, refl, ap, ◌∙◌, subst, ap₂, arith}
+use Rattle.std.proofs.lemmas.Option.{none-some}
 use Rattle.std.proofs.lemmas.Bool.{true≢false, false≢true, both_ways, ltb-false, and_parts}
 use Rattle.ranking.specs.Market.{Market, LawfulMarket, prefers}
 use Rattle.ranking.specs.Stability.{wants}
@@ -13,7 +14,7 @@ use Rattle.board.specs.Outcome.{OneOutcome}
 
 -- what is both somebody and nobody
 some_none : {A : Type 0} (o : Option ℕ) (x : ℕ) → o ≡ Some x → o ≡ None → A
-some_none o x e f = let z : ◌≡◌ {A = ℕ} 0 1 = cc in absurd (omega arith)
+some_none o x e f = absurd (none-some x (sym f ∙ e))
 
 -- two ranks that are there, and neither of which is better, are one
 level : (a b c d : Option ℕ) → prefers a c ≡ true → prefers b d ≡ true → prefers a b ≡ false → prefers b a ≡ false → (k : ℕ) × (a ≡ Some k) × (b ≡ Some k)

@@ -1,13 +1,14 @@
 -- Partners are parties.
-use Rattle.std.proofs.Common.{◌≡◌, ℕ, ◌<◌, Bool, true, false, cond, IfSome, Some, None, Option, refl, ap, ◌∙◌, arith}
+use Rattle.std.proofs.Common.{◌≡◌, ℕ, ◌<◌, Bool, true, false, IfSome, Some, None, Option, refl, ap, ◌∙◌, arith}
 use Rattle.std.proofs.lemmas.Bool.{eq-eqb}
+use Rattle.std.proofs.lemmas.Option.{cond_some, none-some}
 use Rattle.ranking.specs.Market.{Market, LawfulMarket}
 use Rattle.board.specs.Sides.{party_count}
 use Rattle.ranking.specs.Stability.{is_party, holds}
-use Rattle.board.specs.State.{State, Best}
+use Rattle.board.specs.State.{State}
 use Rattle.board.specs.Offer.{wronged, wronged_by}
 use Rattle.board.specs.Kept.{Kept}
-use Rattle.board.proofs.Keeping.{held_facts, offering, ranked_across, across_below}
+use Rattle.board.proofs.Keeping.{held_facts, ranked_across, across_below}
 
 module _ (m : Market) (law : LawfulMarket m) (σ : State) (kept : Kept m σ) where
   -- whom a party holds
@@ -32,14 +33,10 @@ module _ (m : Market) (law : LawfulMarket m) (σ : State) (kept : Kept m σ) whe
   pub wronged_held : (taken : Bool) (y x : ℕ) → wronged σ taken y ≡ Some x → σ.holding y ≡ Some x
   wronged_held true y x e = go (σ.holding y) refl e
     where
-      pick : (b : Bool) (z : ℕ) → cond b (Some z) None ≡ Some x → z ≡ x
-      pick true z e = cc
-      pick false z e = absurd (let n : ◌≡◌ {A = ℕ} 0 1 = cc in omega arith)
-
       go : (o : Option ℕ) → σ.holding y ≡ o → wronged_by σ y o ≡ Some x → o ≡ Some x
       go None s e = e
-      go (Some z) s e = ap Some (pick (σ.bidder z y) z e)
-  wronged_held false y x e = absurd (let n : ◌≡◌ {A = ℕ} 0 1 = cc in omega arith)
+      go (Some z) s e = ap Some (cond_some (σ.bidder z y) z x e).1
+  wronged_held false y x e = absurd (none-some x e)
 
   pub wronged_below : (taken : Bool) (y : ℕ) → IfSome (wronged σ taken y) (λ x. x < party_count m)
   wronged_below taken y = go (wronged σ taken y) refl
@@ -47,10 +44,3 @@ module _ (m : Market) (law : LawfulMarket m) (σ : State) (kept : Kept m σ) whe
       go : (o : Option ℕ) → wronged σ taken y ≡ o → IfSome o (λ x. x < party_count m)
       go None e = tt
       go (Some x) e = partner_below y x (wronged_held taken y x e)
-
-  -- who makes an offer and who gets it are parties
-  pub offer_below : (p q : ℕ) → Best m σ p q → (p < party_count m) × (q < party_count m)
-  offer_below p q best = across_below m p q (offering m law σ kept p q best.sought).sides
-
-  pub offer_rows : (p q : ℕ) → Best m σ p q → (p < 32) × (q < 32)
-  offer_rows p q best = let z = law.sized in let b = offer_below p q best in (omega arith, omega arith)

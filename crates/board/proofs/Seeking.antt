@@ -1,6 +1,6 @@
 -- The search for the best ranked member of an open set, and what it says of who is content.
-use Rattle.std.proofs.Common.{◌≡◌, ℕ, ◌+◌, ◌<◌, ◌≤◌, Bool, true, false, cond, ◌&&◌, ltb, leb, is_some, Some, None, Option, sym, refl, ap, ◌∙◌, ⊎_elim, arith}
-use Rattle.std.proofs.lemmas.Bool.{and_from, and_right, and_left, both_ways, cases_lt, cases_Bool, lt-ltb, le-ltb, ltb-true, ltb-false, eq-eqb, eqb-true}
+use Rattle.std.proofs.Common.{◌≡◌, ℕ, ◌+◌, ◌<◌, ◌≤◌, Bool, true, false, not, ◌&&◌, eqb, ltb, leb, is_some, Some, None, Option, sym, refl, ap, ◌∙◌, subst, ⊎_elim, arith}
+use Rattle.std.proofs.lemmas.Bool.{false_from_ne_true, and_from, and_right, and_left, both_ways, cases_lt, cases_Bool, lt-ltb, eq-eqb, eqb-true}
 use Rattle.std.proofs.lemmas.Bool.Decides.{nat_tests}
 use Rattle.ranking.specs.Market.{Market, prefers, LawfulMarket}
 use Rattle.board.specs.Sides.{across}
@@ -8,9 +8,10 @@ use Rattle.ranking.specs.Stability.{is_party, rank_of, held_rank, wants}
 use Rattle.ranking.proofs.Blocking.{prefers_same}
 use Rattle.board.specs.State.{State, Content, Best}
 use Rattle.board.specs.Kept.{Kept}
-use Rattle.board.specs.RankTables.{rank_from}
-use Rattle.board.specs.Calls.{BestOpen}
-use Rattle.board.proofs.Keeping.{held_facts, not_so, ranked_across}
+use Rattle.board.specs.Calls.{BestOpen, Sought}
+use Rattle.std.specs.Option.{option_eq}
+use Rattle.std.specs.Bool.{then_some}
+use Rattle.board.proofs.Keeping.{held_facts, ranked_across}
 
 -- Ranks in order.
 better_ranked : (a b : Option ℕ) → prefers a b ≡ true → is_some a ≡ true
@@ -41,23 +42,6 @@ strictly_better (Some k) (Some l) e f d n = ⊎_elim (λ (h : k < l). lt-ltb k l
     again : l ≤ k → ⊥
     again h = ⊎_elim (λ (i : l < k). both_ways (ltb l k) n (lt-ltb l k i)) (λ (i : k ≤ l). d l (ap Some (let s : k ≡ l = omega arith in s)) refl) (cases_lt l k)
 
--- of two numbers of a table, the lower is the better rank, and a number that is not lower is not
-pub lower_better : (rank lowest : ℕ) → lowest ≤ 65536 → rank < lowest → prefers (rank_from rank) (rank_from lowest) ≡ true
-lower_better rank lowest h l =
-    ap (λ b. prefers (cond b (Some rank) None) (rank_from lowest)) (lt-ltb rank 65536 (omega arith)) ∙ go (ltb lowest 65536)
-  where
-    go : (b : Bool) → prefers (Some rank) (cond b (Some lowest) None) ≡ true
-    go true = lt-ltb rank lowest l
-    go false = refl
-
-pub not_lower_not_better : (rank lowest : ℕ) → lowest ≤ 65536 → lowest ≤ rank → prefers (rank_from rank) (rank_from lowest) ≡ false
-not_lower_not_better rank lowest h l = go (ltb rank 65536) (ltb lowest 65536) refl refl
-  where
-    go : (b c : Bool) → ltb rank 65536 ≡ b → ltb lowest 65536 ≡ c → prefers (cond b (Some rank) None) (cond c (Some lowest) None) ≡ false
-    go false c e f = refl
-    go true true e f = le-ltb rank lowest l
-    go true false e f = absurd (let x = ltb-true rank 65536 e in let y = ltb-false lowest 65536 f in omega arith)
-
 -- what was found among the parties below n
 abbrev FoundAt : Market → State → ℕ → Option ℕ → Option ℕ → Type 0
 FoundAt m σ p None lowest = lowest ≡ None
@@ -70,7 +54,7 @@ pub record Found (m : Market) (σ : State) (p n : ℕ) (found lowest : Option �
 module _ (m : Market) (law : LawfulMarket m) (σ : State) (p : ℕ) where
   -- who does not face p has no rank with it
   pub beside : (r : ℕ) → across m p r ≡ false → is_some (m.rank p r) ≡ false
-  beside r e = not_so (is_some (m.rank p r)) (λ h. both_ways (across m p r) e (ranked_across m law p r h))
+  beside r e = false_from_ne_true (is_some (m.rank p r)) (λ h. both_ways (across m p r) e (ranked_across m law p r h))
 
   pub found_none : (first end : ℕ) → ((j : ℕ) → across m p j ≡ (leb first j && ltb j end)) → Found m σ p first None None
   found_none first end h = record { least = λ r l _. never_better (m.rank p r) None (beside r (h r ∙ below first end r l)); is = refl }
@@ -150,3 +134,16 @@ the_party (Some x) q e = ap Some (eqb-true x q e)
 
 pub not_the_party : (o : Option ℕ) (q : ℕ) → is_party o q ≡ false → o ≡ Some q → ⊥
 not_the_party o q e s = both_ways (is_party o q) e (ap (λ x. is_party x q) s ∙ eq-eqb q q refl)
+
+module _ (m : Market) (law : LawfulMarket m) (σ : State) (kept : Kept m σ) (p : ℕ) where
+  -- the best of p's open set is sought, unless p holds it
+  pub sought_or_held : (q : ℕ) → BestOpen m σ p (Some q) → (h : Option ℕ) → h ≡ σ.holding p → Sought m σ p (then_some (not (option_eq eqb h (Some q))) q)
+  sought_or_held q best h e = go (is_party h q) refl
+    where
+      same : (h : Option ℕ) → option_eq eqb h (Some q) ≡ is_party h q
+      same None = refl
+      same (Some x) = refl
+
+      go : (b : Bool) → is_party h q ≡ b → Sought m σ p (then_some (not (option_eq eqb h (Some q))) q)
+      go true s = subst (λ b. Sought m σ p (then_some (not b) q)) (sym (same h ∙ s)) (best_held_content m law σ kept p q best (sym e ∙ the_party h q s))
+      go false s = subst (λ b. Sought m σ p (then_some (not b) q)) (sym (same h ∙ s)) (best_sought m law σ kept p q best (λ i. not_the_party h q s (e ∙ i)))

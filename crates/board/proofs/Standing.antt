@@ -1,6 +1,6 @@
 -- A standstill is stable.
 use Rattle.std.proofs.Common.{◌≡◌, ℕ, true, false, ◌||◌, is_some, Some, None, Option, sym, refl, ap, ◌∙◌, ⊎_elim}
-use Rattle.std.proofs.lemmas.Bool.{and_parts, and_from, or_cases, both_ways, eq-eqb}
+use Rattle.std.proofs.lemmas.Bool.{false_from_ne_true, and_parts, and_from, or_cases, both_ways, eq-eqb}
 use Rattle.record.proofs.Lists.{or_false}
 use Rattle.ranking.specs.Market.{Market, LawfulMarket}
 use Rattle.board.specs.Sides.{across}
@@ -8,7 +8,7 @@ use Rattle.ranking.specs.Stability.{is_party, holds, wants, blocks, ranks_both, 
 use Rattle.ranking.proofs.Blocking.{blocks_wants}
 use Rattle.board.specs.State.{State, new_state, seeks, Standstill}
 use Rattle.board.specs.Kept.{Kept}
-use Rattle.board.proofs.Keeping.{held_facts, open_facts, kept_from, across_below, across_swap, ranked_across, wanted_ranked, not_so}
+use Rattle.board.proofs.Keeping.{held_facts, open_facts, kept_from, across_below, across_swap, ranked_across, wanted_ranked}
 
 -- a new board keeps it
 pub new_kept : (m : Market) → Kept m (new_state m)
@@ -35,7 +35,7 @@ module _ (m : Market) (law : LawfulMarket m) (σ : State) (kept : Kept m σ) whe
 
   -- at a standstill no pair blocks
   pub no_pair_blocks : Standstill m σ → (p q : ℕ) → blocks m σ.holding p q ≡ false
-  no_pair_blocks still p q = not_so (blocks m σ.holding p q) blocked
+  no_pair_blocks still p q = false_from_ne_true (blocks m σ.holding p q) blocked
     where
       blocked : blocks m σ.holding p q ≡ true → ⊥
       blocked e =

@@ -1,12 +1,14 @@
 -- What the board's calls answer and promise.
-use Rattle.std.specs.Prelude.{◌≡◌, ℕ, ◌-◌, true, false, not, List, map, is_some, Some, None, Option, nat_lt}
+use Rattle.std.specs.Prelude.{◌≡◌, ℕ, ◌-◌, true, false, cond, not, List, map, is_some, Some, None, Option, nat_lt}
 use Rattle.std.specs.List.{range_with_len}
 use Rattle.record.specs.Refusals.{refuse_if}
 use Rattle.ranking.specs.Market.{Market, prefers}
 use Rattle.board.specs.Sides.{party_count}
 use Rattle.board.specs.State.{State, Content, Best}
+use Rattle.board.specs.Offer.{takes, wronged}
 use Rattle.board.specs.Turn.{Tally}
 use Rattle.board.specs.Meaning.{state_of, market_in}
+use Rattle.board.specs.declared.procedure.Offered.{Offered}
 use Rattle.board.specs.declared.tables.Tables.{Tables}
 use Rattle.board.specs.declared.turned.Turned.{Turned}
 
@@ -35,6 +37,11 @@ pairing_at m σ = map (λ i. lane_byte m.streams (σ.holding i)) (range_with_len
 abbrev pub tally_of : Turned → Tally
 tally_of Turned.Idle = record { moved = 0; offers = 0; chains = 0 }
 tally_of (Turned.Moved offers chains) = record { moved = 1; offers = offers; chains = chains }
+
+-- what an offer of p to q comes to, while somebody is waiting or nobody: q takes p or does not; if it does, whom p and q wrong
+-- by leaving
+abbrev pub answer_to : Market → Option ℕ → State → ℕ → ℕ → Offered
+answer_to m waiting σ p q = cond (takes m waiting σ p q) (Offered.Taken (wronged σ true p) (wronged σ true q)) Offered.NotTaken
 
 -- whom p makes an offer to, or nobody where p is content
 abbrev pub Sought : Market → State → ℕ → Option ℕ → Type 0

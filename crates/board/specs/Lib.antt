@@ -4,6 +4,7 @@ pub mod Offer
 pub mod Turn
 pub mod Kept
 pub mod Meaning
+pub mod Seen
 pub mod RankTables
 pub mod Calls
 pub mod Outcome

@@ -1,29 +1,28 @@
 -- What the board's rows and its table of ranks mean.
-use Rattle.std.specs.Prelude.{ℕ, Bool, List, get_or, Option, slice_index_or}
+use Rattle.std.specs.Prelude.{ℕ, List, get_or, None}
 use Rattle.sets.specs.Sets.{has}
-use Rattle.sets.specs.declared.Members.{Members}
-use Rattle.board.specs.Sides.{party_named}
 use Rattle.ranking.specs.Market.{Market}
 use Rattle.board.specs.State.{State}
 use Rattle.board.specs.RankTables.{table_market}
+use Rattle.board.specs.declared.rows.Row.{Row}
 use Rattle.board.specs.declared.rows.Rows.{Rows}
 use Rattle.board.specs.declared.rank_table.RankTable.{RankTable}
 
--- the set with no member, for a number that has no row
-abbrev pub no_members : Members
-no_members = record { 0 = 0 }
+-- the row of a number that is no party's: nobody is held, and both sets are empty
+abbrev pub no_row : Row
+no_row = record { holding = None; open_set = record { 0 = 0 }; bidders = record { 0 = 0 } }
 
--- whether b is in the set of a
-abbrev pub in_set : List Members → ℕ → ℕ → Bool
-in_set sets a b = has (get_or sets a no_members).0 b
+-- the row of a party
+abbrev pub row_of : Rows → ℕ → Row
+row_of rows a = get_or rows.rows a no_row
 
--- whom a holds
-abbrev pub held_in : List ℕ → ℕ → Option ℕ
-held_in holdings a = party_named (slice_index_or holdings a 255)
+-- what a list of rows means
+abbrev pub state_in : List Row → State
+state_in rows = record { holding = λ a. (get_or rows a no_row).holding; opens = λ a b. has (get_or rows a no_row).open_set.0 b; bidder = λ a b. has (get_or rows a no_row).bidders.0 b }
 
 -- what the rows mean
 abbrev pub state_of : Rows → State
-state_of rows = record { holding = held_in rows.holdings; opens = in_set rows.open_sets; bidder = in_set rows.bidders }
+state_of rows = state_in rows.rows
 
 -- the market that a table of ranks means
 abbrev pub market_in : RankTable → Market

@@ -1,5 +1,5 @@
 -- The two sides of a market, by party numbers.
-use Rattle.std.specs.Prelude.{ℕ, ◌+◌, Bool, cond, ◌&&◌, ◌||◌, Some, None, Option, ◌==◌, nat_le, nat_lt}
+use Rattle.std.specs.Prelude.{ℕ, ◌+◌, Bool, ◌&&◌, ◌||◌, nat_le, nat_lt}
 use Rattle.ranking.specs.Market.{Market}
 
 -- how many parties there are
@@ -13,7 +13,3 @@ stream_and_lane s g p q = nat_lt p s && (nat_le s q && nat_lt q (s + g))
 -- whether p and q stand on the two sides of a market: one is a stream and the other a lane
 abbrev pub across : Market → ℕ → ℕ → Bool
 across m p q = stream_and_lane m.streams m.lanes p q || stream_and_lane m.streams m.lanes q p
-
--- the party that a byte of a table names: 255 is nobody
-abbrev pub party_named : ℕ → Option ℕ
-party_named byte = cond (byte == 255) None (Some byte)

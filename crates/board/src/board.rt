@@ -8,16 +8,16 @@ ghost use Rattle.board.specs.State.{new_state, Content, Standstill};
 ghost use Rattle.board.specs.Turn.{Turn};
 ghost use Rattle.board.specs.Outcome.{OneOutcome, TurnAsComputed};
 ghost use Rattle.board.specs.Kept.{Kept};
-ghost use Rattle.board.specs.Meaning.{state_of};
-ghost use Rattle.board.specs.Calls.{market_at, state_at, party_fault, tally_of, pairing_at};
+ghost use Rattle.board.specs.Meaning.{state_in, state_of};
+ghost use Rattle.board.specs.Calls.{party_fault, tally_of, pairing_at};
 
-use crate::play::MOST_STREAMS;
-use crate::rows::Rows;
+use crate::rows::{MOST_STREAMS, Rows};
 use crate::tables::Tables;
 use crate::turned::Turned;
 use ranking::interface::Ranking;
 use record::refusal::Refusal;
 use sets::Members;
+use std::marker::Model;
 
 /// A board over any ranking, which it holds by value.
 #[derive(Drop)]
@@ -26,12 +26,25 @@ pub struct Board<R: Ranking> {
     tables: Tables,
 }
 
+impl<R: Ranking> Model for Board<R> {
+    ghost use Rattle.std.specs.Prelude.{◌≡◌};
+    ghost use Rattle.ranking.specs.Market.{market_of};
+    ghost use Rattle.board.specs.Calls.{market_at};
+    ghost use Rattle.board.specs.Seen.{Seen};
+
+    ghost Value = { Seen R };
+
+    ghost view = { λ b. record { ranking = b.ranking; rows = b.tables.rows.rows } };
+
+    ghost invariant = { λ b. market_at b.tables ≡ market_of (R.meaning b.ranking) };
+}
+
 impl<R: Ranking> Board<R> {
     /// A new board: nobody holds anybody, every open set is the whole other side, and there are no bidders.
     pub fn new(ranking: R) -> Board<R>
         ensures holds_its_ranking { result.ranking ≡ ranking }
-        ensures goes_by_its_ranking { market_at result.tables ≡ market_of (R.meaning ranking) }
-        ensures is_new { state_at result.tables ≡ new_state (market_of (R.meaning ranking)) }
+        ensures is_new { state_in result.rows ≡ new_state (market_of (R.meaning ranking)) }
+        ensures keeps_what_every_board_keeps { Kept (market_of (R.meaning result.ranking)) (state_in result.rows) }
     {
         let tables = Tables::new(&ranking);
         Board { ranking, tables }
@@ -46,35 +59,35 @@ impl<R: Ranking> Board<R> {
 
     /// Whom a party holds. Refuses 6 where it is not below s + g, as all questions of one party do.
     pub fn holding(&self, party: u8) -> Result<Option<u8>, Refusal>
-        ensures refused_as_told { refused_by result ≡ party_fault (market_at self.now.tables) party }
-        ensures is_the_holding { IfOk result (λ h. h ≡ (state_at self.now.tables).holding party) }
+        ensures refused_as_told { refused_by result ≡ party_fault (market_of (R.meaning self.now.ranking)) party }
+        ensures is_the_holding { IfOk result (λ h. h ≡ (state_in self.now.rows).holding party) }
     {
         self.tables.ranks.check_party(party)?;
-        Ok(self.tables.rows.holding(party))
+        Ok(self.tables.rows.row(party).holding)
     }
 
     /// A party's open set: those to whom it may still make an offer.
     pub fn open_set(&self, party: u8) -> Result<Members, Refusal>
-        ensures refused_as_told { refused_by result ≡ party_fault (market_at self.now.tables) party }
-        ensures is_the_open_set { IfOk result (λ o. (j : ℕ) → has o.0 j ≡ (state_at self.now.tables).opens party j) }
+        ensures refused_as_told { refused_by result ≡ party_fault (market_of (R.meaning self.now.ranking)) party }
+        ensures is_the_open_set { IfOk result (λ o. (j : ℕ) → has o.0 j ≡ (state_in self.now.rows).opens party j) }
     {
         self.tables.ranks.check_party(party)?;
-        Ok(self.tables.rows.open_set(party))
+        Ok(self.tables.rows.row(party).open_set)
     }
 
     /// A party's bidders: those who ever made it an offer.
     pub fn bidders(&self, party: u8) -> Result<Members, Refusal>
-        ensures refused_as_told { refused_by result ≡ party_fault (market_at self.now.tables) party }
-        ensures is_the_set_of_bidders { IfOk result (λ b. (j : ℕ) → has b.0 j ≡ (state_at self.now.tables).bidder party j) }
+        ensures refused_as_told { refused_by result ≡ party_fault (market_of (R.meaning self.now.ranking)) party }
+        ensures is_the_set_of_bidders { IfOk result (λ b. (j : ℕ) → has b.0 j ≡ (state_in self.now.rows).bidder party j) }
     {
         self.tables.ranks.check_party(party)?;
-        Ok(self.tables.rows.bidders_of(party))
+        Ok(self.tables.rows.row(party).bidders)
     }
 
     /// Whether a party is content.
     pub fn is_content(&self, party: u8) -> Result<bool, Refusal>
-        ensures refused_as_told { refused_by result ≡ party_fault (market_at self.now.tables) party }
-        ensures says_whether { IfOk result (λ b. Decides b (Content (market_at self.now.tables) (state_at self.now.tables) party)) }
+        ensures refused_as_told { refused_by result ≡ party_fault (market_of (R.meaning self.now.ranking)) party }
+        ensures says_whether { IfOk result (λ b. Decides b (Content (market_of (R.meaning self.now.ranking)) (state_in self.now.rows) party)) }
     {
         self.tables.ranks.check_party(party)?;
         Ok(self.tables.is_content(party))
@@ -82,31 +95,32 @@ impl<R: Ranking> Board<R> {
 
     /// Whether every party is content. The board's pairing is stable then.
     pub fn is_standstill(&self) -> bool
-        ensures says_whether { Decides result (Standstill (market_at self.now.tables) (state_at self.now.tables)) }
-        ensures standstill_is_stable { let m = market_at self.now.tables in (result ≡ true → Stable m (holding_of m (pairing_at m (state_at self.now.tables)))) }
+        ensures says_whether { Decides result (Standstill (market_of (R.meaning self.now.ranking)) (state_in self.now.rows)) }
+        ensures standstill_is_stable { let m = market_of (R.meaning self.now.ranking) in (result ≡ true → Stable m (holding_of m (pairing_at m (state_in self.now.rows)))) }
     {
         self.tables.is_standstill()
     }
 
     /// The board's pairing: for each stream the lane that it holds, 255 for nobody, and 255 past the streams.
     pub fn pairing(&self) -> [u8; MOST_STREAMS]
-        ensures is_the_pairing { let m = market_at self.now.tables in take m.streams result ≡ pairing_at m (state_at self.now.tables) }
-        ensures has_nobody_past_the_streams { (i : ℕ) → (market_at self.now.tables).streams ≤ i → i < 16 → slice_index result i ≡ 255 }
-        ensures is_a_lawful_pairing { let m = market_at self.now.tables in LawfulPairing m (take m.streams result) }
-        ensures holds_as_the_board { let m = market_at self.now.tables in holding_of m (take m.streams result) ≡ (state_at self.now.tables).holding }
+        ensures is_the_pairing { let m = market_of (R.meaning self.now.ranking) in take m.streams result ≡ pairing_at m (state_in self.now.rows) }
+        ensures has_nobody_past_the_streams { (i : ℕ) → (market_of (R.meaning self.now.ranking)).streams ≤ i → i < 16 → slice_index result i ≡ 255 }
+        ensures keeps_what_every_board_keeps { Kept (market_of (R.meaning self.now.ranking)) (state_in self.now.rows) }
+        ensures is_a_lawful_pairing { let m = market_of (R.meaning self.now.ranking) in LawfulPairing m (take m.streams result) }
+        ensures holds_as_the_board { let m = market_of (R.meaning self.now.ranking) in holding_of m (take m.streams result) ≡ (state_in self.now.rows).holding }
     {
         self.tables.pairing()
     }
 
     /// The turn of a party. Refuses 6 where it is not below s + g.
     pub fn turn(&mut self, party: u8) -> Result<Turned, Refusal>
-        ensures refused_as_told { refused_by result ≡ party_fault (market_at self.old.tables) party }
-        ensures turned_as_told { IfOk result (λ t. Turn (market_at self.old.tables) (state_at self.old.tables) party (state_at self.new.tables) (tally_of t)) }
-        ensures has_few_offers { IfOk result (λ t. (tally_of t).offers ≤ 2 * ((market_at self.old.tables).streams * (market_at self.old.tables).lanes) + 1) }
+        ensures refused_as_told { refused_by result ≡ party_fault (market_of (R.meaning self.old.ranking)) party }
+        ensures turned_as_told { IfOk result (λ t. Turn (market_of (R.meaning self.old.ranking)) (state_in self.old.rows) party (state_in self.new.rows) (tally_of t)) }
+        ensures has_few_offers { IfOk result (λ t. (tally_of t).offers ≤ 2 * ((market_of (R.meaning self.old.ranking)).streams * (market_of (R.meaning self.old.ranking)).lanes) + 1) }
         ensures has_few_chains { IfOk result (λ t. (tally_of t).chains ≤ 2) }
         ensures refused_changes_nothing { OnErr result (self.new ≡ self.old) }
         ensures ranking_unchanged { self.new.ranking ≡ self.old.ranking }
-        ensures market_unchanged { market_at self.new.tables ≡ market_at self.old.tables }
+        ensures keeps_what_every_board_keeps { Kept (market_of (R.meaning self.new.ranking)) (state_in self.new.rows) }
         ensures has_one_outcome { OneOutcome }
         ensures has_a_computed_form { TurnAsComputed }
     {
@@ -118,7 +132,7 @@ impl<R: Ranking> Board<R> {
 impl<R: Ranking + Drop> Board<R> {
     /// A board over given rows, to take up a board again; none where they do not keep what every board keeps.
     pub fn resume(ranking: R, rows: Rows) -> Option<Board<R>>
-        ensures resumed_exactly_when_kept { let m = market_of (R.meaning ranking) in MatchOption result (Kept m (state_of rows) → ⊥) (λ b. (b.ranking ≡ ranking) × (market_at b.tables ≡ m) × (state_at b.tables ≡ state_of rows)) }
+        ensures resumed_exactly_when_kept { let m = market_of (R.meaning ranking) in MatchOption result (Kept m (state_of rows) → ⊥) (λ b. (b.ranking ≡ ranking) × (b.rows ≡ rows.rows) × Kept m (state_of rows)) }
     {
         let tables = Tables::from_rows(&ranking, rows)?;
         Some(Board { ranking, tables })

@@ -2,7 +2,6 @@
 #![tactic(auto)]
 
 pub mod board;
-pub mod play;
 mod procedure;
 pub mod rank_table;
 mod ranks;

@@ -1,204 +1,258 @@
-//! The procedure over a table of ranks and a board's rows: offers, chains and turns. Board, run and planner share it.
+//! The procedure over a board's tables: offers, chains, turns and questions.
 
-ghost use Rattle.std.specs.Prelude.{◌≡◌, ℕ, ◌+◌, ◌*◌, ◌<◌, ◌≤◌, Bool, true, false, ◌&&◌, IfSome, nat_le, nat_lt};
+ghost use Rattle.std.specs.Prelude.{◌≡◌, ℕ, ◌+◌, ◌*◌, ◌<◌, ◌≤◌, Bool, true, false, ◌&&◌, take, is_some, IfSome, Decides, MatchOption, unwrap_or, if◌then◌else◌, nat_le, nat_lt, slice_index};
+ghost use Rattle.ranking.specs.Market.{market_of};
 ghost use Rattle.board.specs.Sides.{party_count, across};
-ghost use Rattle.ranking.specs.Stability.{held_rank, is_party};
-ghost use Rattle.board.specs.State.{Best};
+ghost use Rattle.ranking.specs.Stability.{held_rank, Stable};
+ghost use Rattle.ranking.specs.Pairings.{LawfulPairing, holding_of};
+ghost use Rattle.board.specs.State.{new_state, Content, Standstill, Best};
 ghost use Rattle.board.specs.Offer.{offered, takes, wronged};
 ghost use Rattle.board.specs.Turn.{Chain, Owed, Turn};
 ghost use Rattle.board.specs.Kept.{Kept};
-ghost use Rattle.board.specs.Calls.{Sought, BestOpen, tally_of};
+ghost use Rattle.board.specs.Calls.{market_at, state_at, Sought, BestOpen, answer_to, tally_of, lane_byte, pairing_at};
 ghost use Rattle.board.specs.Meaning.{state_of, market_in};
 
-use crate::rank_table::{NO_RANK, RankTable};
-use crate::rows::Rows;
+use crate::rank_table::RankTable;
+use crate::rows::{MOST_STREAMS, Rows};
+use crate::soundness::Unchecked;
+use crate::tables::Tables;
 use crate::turned::Turned;
 use ranking::finder::is_better;
+use ranking::interface::Ranking;
+use ranking::pairing::NOBODY;
 
-/// Whether somebody is this party; nobody is not.
-pub(crate) fn is_party(somebody: Option<u8>, party: u8) -> bool
-    ensures is_the_test { result ≡ is_party somebody party }
+// Whom a stream holds as a byte of a pairing: the number of its lane, or 255 for nobody.
+fn lane_byte(held: Option<u8>, streams: u8) -> u8
+    requires is_a_lane { IfSome held (λ q. streams ≤ q) }
+    ensures is_the_byte { result ≡ lane_byte streams held }
 {
-    match somebody {
-        Some(other) => other == party,
-        None => false,
-    }
+    held.map_or(NOBODY, |lane| lane - streams)
 }
 
-// The numbers of the parties on the other side: the first, and the one past the last.
-fn other_parties(ranks: &RankTable, party: u8) -> (u8, u8)
-    requires is_a_party { party < party_count (market_in ranks.now) }
-    ensures are_few { (result.0 ≤ result.1) × (result.1 ≤ 32) }
-    ensures are_the_other_side { (j : ℕ) → across (market_in ranks.now) party j ≡ (nat_le result.0 j && nat_lt j result.1) }
-{
-    if party < ranks.streams {
-        (ranks.streams, ranks.streams + ranks.lanes)
-    } else {
-        (0, ranks.streams)
-    }
-}
-
-// The best ranked member of a party's open set.
-fn best_open(ranks: &RankTable, rows: &Rows, party: u8) -> Option<u8>
-    requires is_a_party { party < party_count (market_in ranks.now) }
-    ensures is_the_best { BestOpen (market_in ranks.now) (state_of rows.now) party result }
-{
-    let open = rows.open_set(party);
-    let (first, end) = other_parties(ranks, party);
-    let mut found = None;
-    let mut lowest = NO_RANK;
-    for other in first..end {
-        let rank = ranks.number(party, other);
-        if rank < lowest && open.contains(other) {
-            lowest = rank;
-            found = Some(other);
+impl RankTable {
+    // The numbers of the parties on the other side: the first, and the one past the last.
+    fn other_parties(&self, party: u8) -> (u8, u8)
+        requires is_a_party { party < party_count (market_in self.now) }
+        ensures are_few { (result.0 ≤ result.1) × (result.1 ≤ 32) }
+        ensures are_the_other_side { (j : ℕ) → across (market_in self.now) party j ≡ (nat_le result.0 j && nat_lt j result.1) }
+    {
+        if party < self.streams {
+            (self.streams, self.streams + self.lanes)
+        } else {
+            (0, self.streams)
         }
     }
-    found
 }
 
-/// Whom a party makes an offer to: the best ranked member of its open set; nobody where it is content.
-pub(crate) fn best(ranks: &RankTable, rows: &Rows, party: u8) -> Option<u8>
-    requires kept { Kept (market_in ranks.now) (state_of rows.now) }
-    requires is_a_party { party < party_count (market_in ranks.now) }
-    ensures best_or_content { Sought (market_in ranks.now) (state_of rows.now) party result }
-{
-    let found = best_open(ranks, rows, party)?;
-    if is_party(rows.holding(party), found) {
-        None
-    } else {
-        Some(found)
-    }
-}
-
-// The rank that a party gives its holding; none where it holds nobody.
-fn held_rank(ranks: &RankTable, rows: &Rows, party: u8) -> Option<u16>
-    requires kept { Kept (market_in ranks.now) (state_of rows.now) }
-    requires has_a_row { party < 32 }
-    ensures is_the_rank { result ≡ held_rank (market_in ranks.now) (state_of rows.now).holding party }
-{
-    match rows.holding(party) {
-        Some(held) => ranks.rank(party, held),
-        None => None,
-    }
-}
-
-// Whether q takes p, while somebody is waiting or nobody.
-fn takes_offer(ranks: &RankTable, rows: &Rows, waiting: Option<u8>, p: u8, q: u8) -> bool
-    requires kept { Kept (market_in ranks.now) (state_of rows.now) }
-    requires have_rows { (p < 32) × (q < 32) }
-    ensures is_the_rule { result ≡ takes (market_in ranks.now) waiting (state_of rows.now) p q }
-{
-    !is_party(waiting, q) && is_better(ranks.rank(q, p), held_rank(ranks, rows, q))
-}
-
-// The party that y wrongs by leaving its holding, which it leaves where the offer was taken.
-fn wronged_by(rows: &Rows, taken: bool, y: u8) -> Option<u8>
-    requires has_a_row { y < 32 }
-    requires partner_has_a_row { IfSome ((state_of rows.now).holding y) (λ x. x < 32) }
-    ensures is_the_wronged { result ≡ wronged (state_of rows.now) taken y }
-{
-    if !taken {
-        return None;
-    }
-    let held = rows.holding(y)?;
-    if rows.bidders_of(held).contains(y) {
-        Some(held)
-    } else {
-        None
-    }
-}
-
-/// What an offer of p to q came to: whether it was taken, and whom p and q wronged by leaving.
+/// What an offer of p to q came to.
 #[derive(Clone, Copy)]
-pub(crate) struct Offered {
-    pub(crate) taken: bool,
-    pub(crate) wronged_by_p: Option<u8>,
-    pub(crate) wronged_by_q: Option<u8>,
+pub(crate) enum Offered {
+    /// q did not take p.
+    NotTaken,
+    /// q took p. Each may have wronged the party that it left.
+    Taken {
+        wronged_by_p: Option<u8>,
+        wronged_by_q: Option<u8>,
+    },
 }
 
-/// An offer of p to q, whom p seeks best, while somebody is waiting or nobody.
-pub(crate) fn make_offer(
-    ranks: &RankTable,
-    rows: &mut Rows,
-    waiting: Option<u8>,
-    p: u8,
-    q: u8,
-) -> Offered
-    requires kept { Kept (market_in ranks.now) (state_of rows.old) }
-    requires goes_to_the_best { Best (market_in ranks.now) (state_of rows.old) p q }
-    ensures taken_by_the_rule { result.taken ≡ takes (market_in ranks.now) waiting (state_of rows.old) p q }
-    ensures wronged_by_p_leaving { result.wronged_by_p ≡ wronged (state_of rows.old) result.taken p }
-    ensures wronged_by_q_leaving { result.wronged_by_q ≡ wronged (state_of rows.old) result.taken q }
-    ensures board_after_it { state_of rows.new ≡ offered (state_of rows.old) p q result.taken }
-    ensures stays_kept { Kept (market_in ranks.now) (state_of rows.new) }
-{
-    let taken = takes_offer(ranks, rows, waiting, p, q);
-    let wronged_by_p = wronged_by(rows, taken, p);
-    let wronged_by_q = wronged_by(rows, taken, q);
-    rows.settle(p, q, taken);
-    Offered {
-        taken,
-        wronged_by_p,
-        wronged_by_q,
+impl Tables {
+    /// The tables of a new board over a ranking.
+    pub(crate) fn new<R: Ranking>(ranking: &R) -> Tables
+        ensures goes_by_the_ranking { market_at result ≡ market_of (R.meaning ranking.now) }
+        ensures is_new { state_at result ≡ new_state (market_of (R.meaning ranking.now)) }
+    {
+        let ranks = RankTable::of(ranking);
+        let rows = Rows::new(&ranks);
+        Tables { ranks, rows }
     }
-}
 
-/// The chain of a party, while somebody is waiting or nobody: how many offers it has.
-pub(crate) fn chain(ranks: &RankTable, rows: &mut Rows, waiting: Option<u8>, first: u8) -> u16
-    requires kept { Kept (market_in ranks.now) (state_of rows.old) }
-    requires is_a_party { first < party_count (market_in ranks.now) }
-    ensures ran { Chain (market_in ranks.now) waiting (state_of rows.old) first (state_of rows.new) result }
-    ensures has_few_offers { result ≤ ranks.now.streams * ranks.now.lanes }
-    ensures stays_kept { Kept (market_in ranks.now) (state_of rows.new) }
-{
-    let mut party = first;
-    let mut offers: u16 = 0;
-    while let Some(other) = best(ranks, rows, party) {
-        let offer = make_offer(ranks, rows, waiting, party, other);
-        offers += 1;
-        if offer.taken {
-            match offer.wronged_by_q {
-                Some(wronged) => party = wronged,
-                None => return offers,
+    /// Tables over a ranking and given rows; none where the rows do not keep what every board keeps.
+    pub(crate) fn from_rows<R: Ranking>(ranking: &R, rows: Rows) -> Option<Tables>
+        ensures only_kept_rows { let m = market_of (R.meaning ranking.now) in MatchOption result (Kept m (state_of rows) → ⊥) (λ t. (market_at t ≡ m) × (t.rows ≡ rows)) }
+    {
+        let ranks = RankTable::of(ranking);
+        let unchecked = Unchecked {
+            ranks: &ranks,
+            rows: &rows,
+        };
+        if unchecked.is_kept() {
+            Some(Tables { ranks, rows })
+        } else {
+            None
+        }
+    }
+
+    // The best ranked member of a party's open set.
+    fn best_open(&self, party: u8) -> Option<u8>
+        requires is_a_party { party < party_count (market_at self.now) }
+        ensures is_the_best { BestOpen (market_at self.now) (state_at self.now) party result }
+    {
+        let open = self.rows.row(party).open_set;
+        let (first, end) = self.ranks.other_parties(party);
+        let mut found = None;
+        let mut best = None;
+        for other in first..end {
+            let rank = self.ranks.rank(party, other);
+            if is_better(rank, best) && open.contains(other) {
+                best = rank;
+                found = Some(other);
+            }
+        }
+        found
+    }
+
+    // Whom a party makes an offer to: the best ranked member of its open set; nobody where it is content.
+    fn best(&self, party: u8) -> Option<u8>
+        requires is_a_party { party < party_count (market_at self.now) }
+        ensures best_or_content { Sought (market_at self.now) (state_at self.now) party result }
+    {
+        let found = self.best_open(party)?;
+        (self.rows.row(party).holding != Some(found)).then_some(found)
+    }
+
+    // The rank that a party gives its holding; none where it holds nobody.
+    fn held_rank(&self, party: u8) -> Option<u16>
+        requires has_a_row { party < 32 }
+        ensures is_the_rank { result ≡ held_rank (market_at self.now) (state_at self.now).holding party }
+    {
+        let held = self.rows.row(party).holding?;
+        self.ranks.rank(party, held)
+    }
+
+    // Whether q takes p, while somebody is waiting or nobody.
+    fn takes_offer(&self, waiting: Option<u8>, p: u8, q: u8) -> bool
+        requires have_rows { (p < 32) × (q < 32) }
+        ensures is_the_rule { result ≡ takes (market_at self.now) waiting (state_at self.now) p q }
+    {
+        waiting != Some(q) && is_better(self.ranks.rank(q, p), self.held_rank(q))
+    }
+
+    // The party that y wrongs by leaving its holding.
+    fn wronged_by(&self, y: u8) -> Option<u8>
+        requires has_a_row { y < 32 }
+        ensures is_the_wronged { result ≡ wronged (state_at self.now) true y }
+    {
+        let held = self.rows.row(y).holding?;
+        self.rows.row(held).bidders.contains(y).then_some(held)
+    }
+
+    // An offer of p to q, whom p seeks best, while somebody is waiting or nobody.
+    fn make_offer(&mut self, waiting: Option<u8>, p: u8, q: u8) -> Offered
+        requires goes_to_the_best { Best (market_at self.old) (state_at self.old) p q }
+        ensures taken_by_the_rule { result ≡ answer_to (market_at self.old) waiting (state_at self.old) p q }
+        ensures board_after_it { state_at self.new ≡ offered (state_at self.old) p q (takes (market_at self.old) waiting (state_at self.old) p q) }
+        ensures ranks_unchanged { self.new.ranks ≡ self.old.ranks }
+    {
+        if !self.takes_offer(waiting, p, q) {
+            self.rows.refuse(p, q);
+            return Offered::NotTaken;
+        }
+        let wronged_by_p = self.wronged_by(p);
+        let wronged_by_q = self.wronged_by(q);
+        self.rows.accept(p, q);
+        Offered::Taken {
+            wronged_by_p,
+            wronged_by_q,
+        }
+    }
+
+    // The chain of a party, while somebody is waiting or nobody: how many offers it has.
+    fn chain(&mut self, waiting: Option<u8>, first: u8) -> u16
+        requires is_a_party { first < party_count (market_at self.old) }
+        ensures ran { Chain (market_at self.old) waiting (state_at self.old) first (state_at self.new) result }
+        ensures has_few_offers { result ≤ (market_at self.old).streams * (market_at self.old).lanes }
+        ensures ranks_unchanged { self.new.ranks ≡ self.old.ranks }
+    {
+        let mut party = first;
+        let mut offers: u16 = 0;
+        while let Some(other) = self.best(party) {
+            offers += 1;
+            match self.make_offer(waiting, party, other) {
+                Offered::NotTaken => {}
+                Offered::Taken {
+                    wronged_by_q: Some(wronged),
+                    ..
+                } => party = wronged,
+                Offered::Taken {
+                    wronged_by_q: None,
+                    ..
+                } => return offers,
+            }
+        }
+        offers
+    }
+
+    // The chain that a wronged party is owed, if there is one: how many offers it has.
+    fn owed(&mut self, waiting: Option<u8>, wronged: Option<u8>) -> Option<u16>
+        requires is_a_party { IfSome wronged (λ x. x < party_count (market_at self.old)) }
+        ensures ran { Owed (market_at self.old) waiting wronged (state_at self.old) (state_at self.new) (unwrap_or result 0) (if is_some result then 1 else 0) }
+        ensures has_few_offers { unwrap_or result 0 ≤ (market_at self.old).streams * (market_at self.old).lanes }
+        ensures ranks_unchanged { self.new.ranks ≡ self.old.ranks }
+    {
+        let party = wronged?;
+        Some(self.chain(waiting, party))
+    }
+
+    /// The turn of a party.
+    pub(crate) fn turn(&mut self, party: u8) -> Turned
+        requires is_a_party { party < party_count (market_at self.old) }
+        ensures turned { Turn (market_at self.old) (state_at self.old) party (state_at self.new) (tally_of result) }
+        ensures has_few_offers { (tally_of result).offers ≤ 2 * ((market_at self.old).streams * (market_at self.old).lanes) + 1 }
+        ensures has_few_chains { (tally_of result).chains ≤ 2 }
+        ensures ranks_unchanged { self.new.ranks ≡ self.old.ranks }
+        ensures idle_changes_nothing { result ≡ Turned.Idle → self.new ≡ self.old }
+    {
+        let Some(other) = self.best(party) else {
+            return Turned::Idle;
+        };
+        match self.make_offer(None, party, other) {
+            Offered::NotTaken => Turned::Moved {
+                offers: 1,
+                chains: 0,
+            },
+            Offered::Taken {
+                wronged_by_p,
+                wronged_by_q,
+            } => {
+                let first = self.owed(wronged_by_p, wronged_by_q);
+                let second = self.owed(None, wronged_by_p);
+                Turned::Moved {
+                    offers: 1 + (first.unwrap_or(0) + second.unwrap_or(0)),
+                    chains: u8::from(first.is_some()) + u8::from(second.is_some()),
+                }
             }
         }
     }
-    offers
-}
 
-// The chain that a wronged party is owed, if there is one: its offers, and how many chains that is.
-fn owed(ranks: &RankTable, rows: &mut Rows, waiting: Option<u8>, wronged: Option<u8>) -> (u16, u8)
-    requires kept { Kept (market_in ranks.now) (state_of rows.old) }
-    requires is_a_party { IfSome wronged (λ x. x < party_count (market_in ranks.now)) }
-    ensures ran { Owed (market_in ranks.now) waiting wronged (state_of rows.old) (state_of rows.new) result.0 result.1 }
-    ensures has_few_offers { (result.0 ≤ ranks.now.streams * ranks.now.lanes) × (result.1 ≤ 1) }
-    ensures stays_kept { Kept (market_in ranks.now) (state_of rows.new) }
-{
-    match wronged {
-        Some(party) => (chain(ranks, rows, waiting, party), 1),
-        None => (0, 0),
+    /// Whether a party is content.
+    pub(crate) fn is_content(&self, party: u8) -> bool
+        requires is_a_party { party < party_count (market_at self.now) }
+        ensures says_whether { Decides result (Content (market_at self.now) (state_at self.now) party) }
+    {
+        self.best(party).is_none()
     }
-}
 
-/// The turn of a party.
-pub(crate) fn turn_of(ranks: &RankTable, rows: &mut Rows, party: u8) -> Turned
-    requires kept { Kept (market_in ranks.now) (state_of rows.old) }
-    requires is_a_party { party < party_count (market_in ranks.now) }
-    ensures turned { Turn (market_in ranks.now) (state_of rows.old) party (state_of rows.new) (tally_of result) }
-    ensures has_few_offers { (tally_of result).offers ≤ 2 * (ranks.now.streams * ranks.now.lanes) + 1 }
-    ensures has_few_chains { (tally_of result).chains ≤ 2 }
-    ensures stays_kept { Kept (market_in ranks.now) (state_of rows.new) }
-    ensures idle_changes_nothing { result ≡ Turned.Idle → rows.new ≡ rows.old }
-{
-    let Some(other) = best(ranks, rows, party) else {
-        return Turned::Idle;
-    };
-    let offer = make_offer(ranks, rows, None, party, other);
-    let (first_offers, first) = owed(ranks, rows, offer.wronged_by_p, offer.wronged_by_q);
-    let (second_offers, second) = owed(ranks, rows, None, offer.wronged_by_p);
-    Turned::Moved {
-        offers: 1 + (first_offers + second_offers),
-        chains: first + second,
+    /// Whether every party is content.
+    pub(crate) fn is_standstill(&self) -> bool
+        ensures says_whether { Decides result (Standstill (market_at self.now) (state_at self.now)) }
+        ensures standstill_is_stable { let m = market_at self.now in (result ≡ true → Stable m (holding_of m (pairing_at m (state_at self.now)))) }
+    {
+        (0..self.ranks.parties()).all(|party| self.is_content(party))
+    }
+
+    /// The board's pairing: for each stream the lane that it holds, 255 for nobody, and 255 past the streams.
+    pub(crate) fn pairing(&self) -> [u8; MOST_STREAMS]
+        ensures is_the_pairing { let m = market_at self.now in take m.streams result ≡ pairing_at m (state_at self.now) }
+        ensures has_nobody_past_the_streams { (i : ℕ) → (market_at self.now).streams ≤ i → i < 16 → slice_index result i ≡ 255 }
+        ensures is_a_lawful_pairing { let m = market_at self.now in LawfulPairing m (take m.streams result) }
+        ensures holds_as_the_board { let m = market_at self.now in holding_of m (take m.streams result) ≡ (state_at self.now).holding }
+    {
+        let streams = self.ranks.streams;
+        let mut lanes = [NOBODY; MOST_STREAMS];
+        for stream in 0..streams {
+            lanes[stream as usize] = lane_byte(self.rows.row(stream).holding, streams);
+        }
+        lanes
     }
 }

@@ -1,47 +1,36 @@
-ghost use Rattle.std.specs.Prelude.{◌≡◌, ℕ, ◌+◌, ◌*◌, ◌<◌, ◌≤◌};
-ghost use Rattle.ranking.specs.Market.{market_of, rank_across};
-ghost use Rattle.board.specs.Sides.{party_count};
-ghost use Rattle.board.specs.RankTables.{rank_from, rank_in};
+ghost use Rattle.std.specs.Prelude.{◌≡◌, ℕ, ◌+◌, ◌<◌, ◌≤◌};
+ghost use Rattle.ranking.specs.Market.{market_of};
+ghost use Rattle.sets.specs.Sets.{has};
+ghost use Rattle.board.specs.Sides.{party_count, across};
+ghost use Rattle.board.specs.RankTables.{ranks_by, table_of};
 ghost use Rattle.record.specs.Refusals.{refused_by};
 ghost use Rattle.board.specs.Meaning.{market_in};
 ghost use Rattle.board.specs.Calls.{party_fault};
 
-use crate::rank_table::{NO_RANK, RankTable, TABLE};
-use ranking::interface::Ranking;
+use crate::rank_table::RankTable;
+use crate::rows::MOST_PARTIES;
+use ranking::interface::{Ranking, rank_between};
 use record::refusal::Refusal;
+use sets::Members;
+use std::array;
 
-// The place of a rank in the table.
-fn place_of(party: u8, other: u8) -> usize
-    requires have_rows { (party < 32) × (other < 32) }
-    ensures is_in_the_table { (result ≡ 32 * party + other) × (result < 1024) }
+// The ranks that a party gives the others.
+fn ranks_by<R: Ranking>(ranking: &R, party: u8) -> [Option<u16>; MOST_PARTIES]
+    ensures are_its_ranks { result ≡ ranks_by (market_of (R.meaning ranking.now)) party }
 {
-    32 * party as usize + other as usize
+    array::from_fn(|other| rank_between(ranking, party, other as u8))
 }
 
-// A rank as a number of the table.
-fn rank_number(rank: Option<u16>) -> u32
-    ensures is_the_number { rank_from result ≡ rank }
+// The ranks of a ranking by party numbers.
+fn ranks_of<R: Ranking>(ranking: &R) -> [[Option<u16>; MOST_PARTIES]; MOST_PARTIES]
+    ensures is_its_table { result ≡ table_of (market_of (R.meaning ranking.now)) }
 {
-    match rank {
-        Some(number) => number as u32,
-        None => NO_RANK,
-    }
-}
-
-// The ranks of a ranking by party numbers. Every question is put once.
-fn ranks_of<R: Ranking>(ranking: &R, streams: u8, lanes: u8) -> [u32; TABLE]
-    requires are_its_sizes { (streams ≡ (R.meaning ranking.now).streams) × (lanes ≡ (R.meaning ranking.now).lanes) }
-    ensures are_its_ranks { (p q : ℕ) → rank_in result p q ≡ rank_across (R.meaning ranking.now) p q }
-{
-    let mut table = [NO_RANK; TABLE];
-    for stream in 0..streams {
-        for lane in 0..lanes {
-            let party = streams + lane;
-            table[place_of(stream, party)] = rank_number(ranking.rank_by_stream(stream, lane));
-            table[place_of(party, stream)] = rank_number(ranking.rank_by_lane(lane, stream));
-        }
-    }
-    table
+    array::from_fn(
+        |party| -> [Option<u16>; MOST_PARTIES]
+            requires { party < 32 }
+            ensures { result ≡ ranks_by (market_of (R.meaning ranking.entry.now)) party }
+        { ranks_by(ranking, party as u8) },
+    )
 }
 
 impl RankTable {
@@ -49,13 +38,10 @@ impl RankTable {
     pub(crate) fn of<R: Ranking>(ranking: &R) -> RankTable
         ensures is_its_market { market_in result ≡ market_of (R.meaning ranking.now) }
     {
-        let streams = ranking.streams();
-        let lanes = ranking.lanes();
-        let table = ranks_of(ranking, streams, lanes);
         RankTable {
-            streams,
-            lanes,
-            table,
+            streams: ranking.streams(),
+            lanes: ranking.lanes(),
+            table: ranks_of(ranking),
         }
     }
 
@@ -66,10 +52,24 @@ impl RankTable {
         self.streams + self.lanes
     }
 
+    /// The parties of the other side of a party's; nobody for a number that is no party's.
+    pub(crate) fn other_side(&self, party: u8) -> Members
+        ensures is_the_other_side { (j : ℕ) → has result.0 j ≡ across (market_in self.now) party j }
+    {
+        if party < self.streams {
+            Members::range(self.streams, self.parties())
+        } else if party < self.parties() {
+            Members::range(0, self.streams)
+        } else {
+            Members::none()
+        }
+    }
+
     /// Refuses 6 where a party is not below s + g.
     pub(crate) fn check_party(&self, party: u8) -> Result<(), Refusal>
         ensures refused_as_told { refused_by result ≡ party_fault (market_in self.now) party }
     {
+        // `if` and `else` say it in fewer words than methods of Option and Result
         if party < self.parties() {
             Ok(())
         } else {
@@ -77,24 +77,12 @@ impl RankTable {
         }
     }
 
-    /// The rank that a party gives another as a number, 65,536 or more for none.
-    pub(crate) fn number(&self, party: u8, other: u8) -> u32
-        requires have_rows { (party < 32) × (other < 32) }
-        ensures is_the_rank { rank_from result ≡ (market_in self.now).rank party other }
-    {
-        self.table[place_of(party, other)]
-    }
-
     /// The rank that a party gives another, by party numbers.
+    #[tactic(auto, unfolding(crate::specs::RankTables::rank_in))]
     pub(crate) fn rank(&self, party: u8, other: u8) -> Option<u16>
         requires have_rows { (party < 32) × (other < 32) }
         ensures is_the_rank { result ≡ (market_in self.now).rank party other }
     {
-        let number = self.number(party, other);
-        if number < NO_RANK {
-            Some(number as u16)
-        } else {
-            None
-        }
+        self.table[party as usize][other as usize]
     }
 }

@@ -1,80 +1,56 @@
-ghost use Rattle.std.specs.Prelude.{◌≡◌, ℕ, ◌+◌, ◌<◌, ◌≤◌, Bool, true, false, length, IfSome};
-ghost use Rattle.sets.specs.Sets.{has};
-ghost use Rattle.ranking.specs.Market.{Market};
-ghost use Rattle.board.specs.Sides.{across};
-ghost use Rattle.board.specs.State.{State, new_state};
-ghost use Rattle.board.specs.Offer.{joins, loses, leaves, pairs_up, offered};
-ghost use Rattle.board.specs.Meaning.{state_of};
+ghost use Rattle.std.specs.Prelude.{◌≡◌, ℕ, ◌+◌, ◌<◌, ◌≤◌, true, false, length, IfSome};
+ghost use Rattle.board.specs.State.{new_state};
+ghost use Rattle.board.specs.Offer.{with_holding, joins, loses, leaves, pairs_up, offered};
 
-use ranking::pairing::NOBODY;
+use crate::rank_table::RankTable;
 use sets::Members;
+
+/// The most streams.
+pub const MOST_STREAMS: usize = 16;
 
 /// The most parties.
 pub const MOST_PARTIES: usize = 32;
 
-/// For each party whom it holds, 255 for nobody, its open set, and its bidders.
-#[derive(Drop)]
-pub struct Rows {
-    pub holdings: [u8; MOST_PARTIES],
-    pub open_sets: [Members; MOST_PARTIES],
-    pub bidders: [Members; MOST_PARTIES],
+/// What a board holds of one party: whom it holds, its open set, and its bidders.
+#[derive(Clone, Copy)]
+pub struct Row {
+    pub holding: Option<u8>,
+    pub open_set: Members,
+    pub bidders: Members,
 }
 
-/// The parties of the other side of a party's.
-pub(crate) fn other_side(streams: u8, lanes: u8, party: u8) -> Members
-    requires there_are_few { (streams ≤ 16) × (lanes ≤ 16) × (party < streams + lanes) }
-    ensures is_the_other_side { (m : Market) → m.streams ≡ streams → m.lanes ≡ lanes → (j : ℕ) → has result.0 j ≡ across m party j }
-{
-    if party < streams {
-        Members::range(streams, streams + lanes)
-    } else {
-        Members::range(0, streams)
-    }
+/// A row for each party, by party number.
+#[derive(Drop)]
+pub struct Rows {
+    pub rows: [Row; MOST_PARTIES],
+    ghost one_each: { length rows ≡ 32 },
 }
 
 impl Rows {
+    ghost use Rattle.board.specs.Meaning.{row_of, state_of, market_in};
+
     /// The rows of a new board: nobody holds anybody, every open set is the whole other side, and there are no bidders.
-    pub(crate) fn new(streams: u8, lanes: u8) -> Rows
-        requires there_are_few { (streams ≤ 16) × (lanes ≤ 16) }
-        ensures are_new { (m : Market) → m.streams ≡ streams → m.lanes ≡ lanes → state_of result ≡ new_state m }
+    pub(crate) fn new(ranks: &RankTable) -> Rows
+        ensures are_new { state_of result ≡ new_state (market_in ranks.now) }
     {
-        let mut open_sets = [Members::none(); MOST_PARTIES];
-        for party in 0..streams + lanes {
-            open_sets[party as usize] = other_side(streams, lanes, party);
+        let empty = Row {
+            holding: None,
+            open_set: Members::none(),
+            bidders: Members::none(),
+        };
+        let mut rows = [empty; MOST_PARTIES];
+        for party in 0..ranks.parties() {
+            rows[party as usize].open_set = ranks.other_side(party);
         }
-        Rows {
-            holdings: [NOBODY; MOST_PARTIES],
-            open_sets,
-            bidders: [Members::none(); MOST_PARTIES],
-        }
+        Rows { rows }
     }
 
-    /// Whom a party holds.
-    pub(crate) fn holding(&self, party: u8) -> Option<u8>
+    /// A party's row.
+    pub(crate) fn row(&self, party: u8) -> Row
         requires has_a_row { party < 32 }
-        ensures is_the_holding { result ≡ (state_of self.now).holding party }
-        ensures of_32_rows { length self.now.holdings ≡ 32 }
+        ensures is_the_row { result ≡ row_of self.now party }
     {
-        let held = self.holdings[party as usize];
-        if held == NOBODY { None } else { Some(held) }
-    }
-
-    /// A party's open set.
-    pub(crate) fn open_set(&self, party: u8) -> Members
-        requires has_a_row { party < 32 }
-        ensures is_the_open_set { (j : ℕ) → has result.0 j ≡ (state_of self.now).opens party j }
-        ensures of_32_rows { length self.now.open_sets ≡ 32 }
-    {
-        self.open_sets[party as usize]
-    }
-
-    /// A party's bidders.
-    pub(crate) fn bidders_of(&self, party: u8) -> Members
-        requires has_a_row { party < 32 }
-        ensures is_the_set_of_bidders { (j : ℕ) → has result.0 j ≡ (state_of self.now).bidder party j }
-        ensures of_32_rows { length self.now.bidders ≡ 32 }
-    {
-        self.bidders[party as usize]
+        self.rows[party as usize]
     }
 
     // p joins q's open set and q's bidders.
@@ -82,12 +58,9 @@ impl Rows {
         requires have_rows { (p < 32) × (q < 32) }
         ensures joined { state_of self.new ≡ joins (state_of self.old) p q }
     {
-        let mut open = self.open_sets[q as usize];
-        open.insert(p);
-        self.open_sets[q as usize] = open;
-        let mut bidders = self.bidders[q as usize];
-        bidders.insert(p);
-        self.bidders[q as usize] = bidders;
+        let row = &mut self.rows[q as usize];
+        row.open_set.insert(p);
+        row.bidders.insert(p);
     }
 
     // q leaves p's open set.
@@ -95,9 +68,8 @@ impl Rows {
         requires have_rows { (p < 32) × (q < 32) }
         ensures lost { state_of self.new ≡ loses (state_of self.old) p q }
     {
-        let mut open = self.open_sets[p as usize];
-        open.remove(q);
-        self.open_sets[p as usize] = open;
+        let row = &mut self.rows[p as usize];
+        row.open_set.remove(q);
     }
 
     // p leaves the party that it held, if there is one: that one loses p from its open set and holds nobody.
@@ -106,11 +78,18 @@ impl Rows {
         ensures left { state_of self.new ≡ leaves (state_of self.old) p held }
     {
         if let Some(x) = held {
-            let mut open = self.open_sets[x as usize];
-            open.remove(p);
-            self.open_sets[x as usize] = open;
-            self.holdings[x as usize] = NOBODY;
+            let row = &mut self.rows[x as usize];
+            row.open_set.remove(p);
+            row.holding = None;
         }
+    }
+
+    // p holds somebody else, or nobody.
+    fn set_holding(&mut self, p: u8, held: Option<u8>)
+        requires has_a_row { p < 32 }
+        ensures holds_that { state_of self.new ≡ record (state_of self.old) { holding = with_holding (state_of self.old).holding p held } }
+    {
+        self.rows[p as usize].holding = held;
     }
 
     // p and q hold each other.
@@ -118,25 +97,30 @@ impl Rows {
         requires have_rows { (p < 32) × (q < 32) }
         ensures paired { state_of self.new ≡ pairs_up (state_of self.old) p q }
     {
-        self.holdings[q as usize] = p;
-        self.holdings[p as usize] = q;
+        self.set_holding(q, Some(p));
+        self.set_holding(p, Some(q));
     }
 
-    /// The rows after an offer of p to q, by whether it was taken.
-    pub(crate) fn settle(&mut self, p: u8, q: u8, taken: bool)
+    /// An offer of p to q that is not taken.
+    pub(crate) fn refuse(&mut self, p: u8, q: u8)
+        requires have_rows { (p < 32) × (q < 32) }
+        ensures is_not_taken { state_of self.new ≡ offered (state_of self.old) p q false }
+    {
+        self.join(p, q);
+        self.lose(p, q);
+    }
+
+    /// An offer of p to q that is taken.
+    pub(crate) fn accept(&mut self, p: u8, q: u8)
         requires have_rows { (p < 32) × (q < 32) }
         requires partners_have_rows { IfSome ((state_of self.old).holding p) (λ x. x < 32) × IfSome ((state_of self.old).holding q) (λ x. x < 32) }
-        ensures settled { state_of self.new ≡ offered (state_of self.old) p q taken }
+        ensures is_taken { state_of self.new ≡ offered (state_of self.old) p q true }
     {
-        let held_by_p = self.holding(p);
-        let held_by_q = self.holding(q);
+        let held_by_p = self.row(p).holding;
+        let held_by_q = self.row(q).holding;
         self.join(p, q);
-        if taken {
-            self.leave(p, held_by_p);
-            self.leave(q, held_by_q);
-            self.pair_up(p, q);
-        } else {
-            self.lose(p, q);
-        }
+        self.leave(p, held_by_p);
+        self.leave(q, held_by_q);
+        self.pair_up(p, q);
     }
 }

@@ -1,115 +1,93 @@
 //! Whether rows keep what every board keeps.
 
-ghost use Rattle.std.specs.Prelude.{◌≡◌, ℕ, ◌+◌, ◌<◌, ◌≤◌, Bool, true, false, not, ◌&&◌, ◌||◌, length, is_some, Decides};
-ghost use Rattle.sets.specs.Sets.{has};
-ghost use Rattle.board.specs.Sides.{across};
+ghost use Rattle.std.specs.Prelude.{◌≡◌, ℕ, ◌+◌, ◌<◌, ◌≤◌, Bool, true, false, not, ◌&&◌, ◌||◌, is_some, Decides};
 ghost use Rattle.ranking.specs.Stability.{holds};
 ghost use Rattle.board.specs.Kept.{offer_between, held_right, open_right, sides_right, kept_at, Kept};
 ghost use Rattle.board.specs.Meaning.{state_of, market_in};
 
-use crate::procedure::is_party;
 use crate::rank_table::RankTable;
-use crate::rows::{Rows, other_side};
-use sets::Members;
+use crate::rows::Rows;
 
-// Whether one of two parties has made the other an offer.
-fn offer_between(rows: &Rows, a: u8, b: u8) -> bool
-    requires have_rows { (a < 32) × (b < 32) }
-    ensures is_the_test { result ≡ offer_between (state_of rows.now) a b }
-{
-    rows.bidders_of(a).contains(b) || rows.bidders_of(b).contains(a)
+/// Ranks, and rows of which it is not known yet whether they keep what every board keeps.
+#[derive(Clone, Copy)]
+pub(crate) struct Unchecked<'a> {
+    pub(crate) ranks: &'a RankTable,
+    pub(crate) rows: &'a Rows,
 }
 
-// Whether b, whom a holds, holds a, is ranked by a, is in its open set, and one has made the other an offer.
-fn partner_is_right(ranks: &RankTable, rows: &Rows, a: u8, b: u8) -> bool
-    requires have_rows { (a < 32) × (b < 32) }
-    ensures is_the_test { let σ = state_of rows.now in result ≡ (holds σ.holding b a && (is_some ((market_in ranks.now).rank a b) && (σ.opens a b && offer_between σ a b))) }
-{
-    is_party(rows.holding(b), a)
-        && ranks.rank(a, b).is_some()
-        && rows.open_set(a).contains(b)
-        && offer_between(rows, a, b)
-}
-
-// Whether a party's holding is right.
-fn holding_is_right(ranks: &RankTable, rows: &Rows, a: u8) -> bool
-    requires has_a_row { a < 32 }
-    ensures says_whether { Decides result ((b : ℕ) → held_right (market_in ranks.now) (state_of rows.now) a b ≡ true) }
-    ensures of_32_rows { length rows.now.holdings ≡ 32 }
-{
-    match rows.holding(a) {
-        Some(b) => b < 32 && partner_is_right(ranks, rows, a, b),
-        None => true,
+impl Unchecked<'_> {
+    // Whether one of two parties has made the other an offer.
+    fn offer_between(self, a: u8, b: u8) -> bool
+        requires have_rows { (a < 32) × (b < 32) }
+        ensures is_the_test { result ≡ offer_between (state_of self.entry.rows.now) a b }
+    {
+        self.rows.row(a).bidders.contains(b) || self.rows.row(b).bidders.contains(a)
     }
-}
 
-// Whether one of a stream and a lane is in the other's open set, and if the second is missing from the first's, one has made
-// the other an offer.
-fn pair_is_right(rows: &Rows, a: u8, b: u8) -> bool
-    requires have_rows { (a < 32) × (b < 32) }
-    ensures is_the_test { let σ = state_of rows.now in result ≡ ((σ.opens a b || σ.opens b a) && (σ.opens a b || offer_between σ a b)) }
-{
-    rows.open_set(a).contains(b) || (rows.open_set(b).contains(a) && offer_between(rows, a, b))
-}
-
-// The parties of the other side of a party's; nobody for a number that is no party's.
-fn facing(ranks: &RankTable, a: u8) -> Members
-    ensures is_the_other_side { (j : ℕ) → has result.0 j ≡ across (market_in ranks.now) a j }
-{
-    if a < ranks.parties() {
-        other_side(ranks.streams, ranks.lanes, a)
-    } else {
-        Members::none()
+    // Whether b, whom a holds, holds a, is ranked by a, is in its open set, and one has made the other an offer.
+    fn partner_is_right(self, a: u8, b: u8) -> bool
+        requires have_rows { (a < 32) × (b < 32) }
+        ensures is_the_test { let σ = state_of self.entry.rows.now in result ≡ (holds σ.holding b a && (is_some ((market_in self.entry.ranks.now).rank a b) && (σ.opens a b && offer_between σ a b))) }
+    {
+        self.rows.row(b).holding == Some(a)
+            && self.ranks.rank(a, b).is_some()
+            && self.rows.row(a).open_set.contains(b)
+            && self.offer_between(a, b)
     }
-}
 
-// Whether the members of a party's open set and its bidders stand on the other side.
-fn sets_are_right(ranks: &RankTable, rows: &Rows, a: u8) -> bool
-    requires has_a_row { a < 32 }
-    ensures says_whether { Decides result ((b : ℕ) → sides_right (market_in ranks.now) (state_of rows.now) a b ≡ true) }
-    ensures of_32_rows { result ≡ true → (length rows.now.open_sets ≡ 32) × (length rows.now.bidders ≡ 32) }
-{
-    let others = facing(ranks, a);
-    rows.open_set(a).is_within(others) && rows.bidders_of(a).is_within(others)
-}
-
-// Whether a party's pairs with all parties of the other side are right.
-fn pairs_are_right(ranks: &RankTable, rows: &Rows, a: u8) -> bool
-    requires has_a_row { a < 32 }
-    ensures says_whether { Decides result ((b : ℕ) → open_right (market_in ranks.now) (state_of rows.now) a b ≡ true) }
-{
-    let others = facing(ranks, a);
-    for b in 0..ranks.parties() {
-        if others.contains(b) && !pair_is_right(rows, a, b) {
-            return false;
+    // Whether a party's holding is right.
+    fn holding_is_right(self, a: u8) -> bool
+        requires has_a_row { a < 32 }
+        ensures says_whether { Decides result ((b : ℕ) → held_right (market_in self.entry.ranks.now) (state_of self.entry.rows.now) a b ≡ true) }
+    {
+        // a `match`, since of `is_none_or` with this closure no proof was found without a long lemma
+        match self.rows.row(a).holding {
+            Some(b) => b < 32 && self.partner_is_right(a, b),
+            None => true,
         }
     }
-    true
-}
 
-// Whether everything that every board keeps is right of a party.
-fn party_is_right(ranks: &RankTable, rows: &Rows, a: u8) -> bool
-    requires has_a_row { a < 32 }
-    ensures says_whether { Decides result ((b : ℕ) → kept_at (market_in ranks.now) (state_of rows.now) a b ≡ true) }
-    ensures of_32_rows { result ≡ true → (length rows.now.holdings ≡ 32) × (length rows.now.open_sets ≡ 32) × (length rows.now.bidders ≡ 32) }
-{
-    if !holding_is_right(ranks, rows, a) {
-        return false;
+    // Whether one of a stream and a lane is in the other's open set, and if the second is missing from the first's, one has
+    // made the other an offer.
+    fn pair_is_right(self, a: u8, b: u8) -> bool
+        requires have_rows { (a < 32) × (b < 32) }
+        ensures is_the_test { let σ = state_of self.entry.rows.now in result ≡ ((σ.opens a b || σ.opens b a) && (σ.opens a b || offer_between σ a b)) }
+    {
+        self.rows.row(a).open_set.contains(b)
+            || (self.rows.row(b).open_set.contains(a) && self.offer_between(a, b))
     }
-    if !pairs_are_right(ranks, rows, a) {
-        return false;
-    }
-    sets_are_right(ranks, rows, a)
-}
 
-/// Whether rows keep what every board keeps.
-pub(crate) fn is_kept(ranks: &RankTable, rows: &Rows) -> bool
-    ensures says_whether { Decides result (Kept (market_in ranks.now) (state_of rows.now)) }
-{
-    for a in 0..32 {
-        if !party_is_right(ranks, rows, a) {
-            return false;
-        }
+    // Whether the members of a party's open set and its bidders stand on the other side.
+    fn sets_are_right(self, a: u8) -> bool
+        requires has_a_row { a < 32 }
+        ensures says_whether { Decides result ((b : ℕ) → sides_right (market_in self.entry.ranks.now) (state_of self.entry.rows.now) a b ≡ true) }
+    {
+        let others = self.ranks.other_side(a);
+        let row = self.rows.row(a);
+        row.open_set.is_within(others) && row.bidders.is_within(others)
     }
-    true
+
+    // Whether a party's pairs with all parties of the other side are right.
+    fn pairs_are_right(self, a: u8) -> bool
+        requires has_a_row { a < 32 }
+        ensures says_whether { Decides result ((b : ℕ) → open_right (market_in self.entry.ranks.now) (state_of self.entry.rows.now) a b ≡ true) }
+    {
+        let others = self.ranks.other_side(a);
+        (0..self.ranks.parties()).all(|b| !others.contains(b) || self.pair_is_right(a, b))
+    }
+
+    // Whether everything that every board keeps is right of a party.
+    fn party_is_right(self, a: u8) -> bool
+        requires has_a_row { a < 32 }
+        ensures says_whether { Decides result ((b : ℕ) → kept_at (market_in self.entry.ranks.now) (state_of self.entry.rows.now) a b ≡ true) }
+    {
+        self.holding_is_right(a) && self.pairs_are_right(a) && self.sets_are_right(a)
+    }
+
+    /// Whether the rows keep what every board keeps.
+    pub(crate) fn is_kept(self) -> bool
+        ensures says_whether { Decides result (Kept (market_in self.entry.ranks.now) (state_of self.entry.rows.now)) }
+    {
+        (0..32).all(|a| self.party_is_right(a))
+    }
 }

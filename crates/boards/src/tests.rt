@@ -1,6 +1,6 @@
 use crate::{AGREED, MEDIAN, ONE_SIDED, SQUARE, WITHDRAWAL};
 use board::board::Board;
-use board::rows::Rows;
+use board::rows::{Row, Rows};
 use board::turned::Turned;
 use ranking::figures::{LaneFigures, StreamFigures};
 use ranking::interface::Ranking;
@@ -98,23 +98,26 @@ fn one_sided_board(rt: HostRuntime) -> Result<(), Fail> {
 
 // Rows of four parties: whom each holds, and its bidders as one number or nobody; all open sets are full.
 fn four_rows(holdings: [u8; 4], bidders: [u8; 4]) -> Rows {
-    let mut rows = Rows {
-        holdings: [255; 32],
-        open_sets: [Members::none(); 32],
-        bidders: [Members::none(); 32],
+    let nobody = Row {
+        holding: None,
+        open_set: Members::none(),
+        bidders: Members::none(),
     };
-    for k in 0..4usize {
-        rows.holdings[k] = holdings[k];
-        rows.open_sets[k] = if k < 2 {
-            Members::range(2, 4)
-        } else {
-            Members::range(0, 2)
-        };
+    let mut rows = [nobody; 32];
+    for (k, row) in rows[..4].iter_mut().enumerate() {
         let mut set = Members::none();
         set.insert(bidders[k]);
-        rows.bidders[k] = set;
+        *row = Row {
+            holding: Some(holdings[k]),
+            open_set: if k < 2 {
+                Members::range(2, 4)
+            } else {
+                Members::range(0, 2)
+            },
+            bidders: set,
+        };
     }
-    rows
+    Rows { rows }
 }
 
 #[test]

@@ -1,18 +1,20 @@
-use Rattle.std.proofs.Common.{sym, subst}
+use Rattle.std.proofs.Common.{◌≡◌, Bool, true, Decides, subst}
+use Rattle.ranking.specs.Market.{Market, market_of}
+use Rattle.ranking.specs.Pairings.{holding_of}
 use Rattle.ranking.specs.Stability.{Stable}
-use Rattle.board.specs.Calls.{market_at, state_at}
-use Rattle.board.proofs.RankTables.{lawful_table}
-use Rattle.board.proofs.Standing.{standstill_stable}
-use Rattle.board.proofs.BoardPairings.{pairing_holds}
+use Rattle.board.specs.State.{State, Standstill}
+use Rattle.board.specs.Meaning.{state_in}
+use Rattle.board.specs.Calls.{state_at, pairing_at}
 use Rattle.board.proofs.board.Board.is_standstill.Goals as goal
+
+-- both clauses, of a market and a board
+abbrev Says : Bool → Market → State → Type 0
+Says whether m σ = Decides whether (Standstill m σ) × (whether ≡ true → Stable m (holding_of m (pairing_at m σ)))
 
 pub returns : goal.returns
 returns g c =
-    let t = c.args.self.now.tables in
-    let m = market_at t in
-    let σ = state_at t in
-    let says = c.is_standstill.ensures.says_whether in
-    record {
-      says_whether = says;
-      standstill_is_stable = λ e. subst (Stable m) (sym (pairing_holds m (lawful_table t.ranks) σ t.kept)) (standstill_stable m (lawful_table t.ranks) σ t.kept (says.0 e));
-    }
+    let whether = c.is_standstill.result in
+    let answer = c.is_standstill.ensures in
+    let says = subst (λ v. Says whether (market_of (g.R.Ranking.meaning v.ranking)) (state_in v.rows)) c.self.view_is
+    (subst (λ (m : Market). Says whether m (state_at c.self.inside.tables)) c.self.invariant (answer.says_whether, answer.standstill_is_stable)) in
+    record { says_whether = says.0; standstill_is_stable = says.1 }

@@ -1,8 +1,10 @@
 use Rattle.std.proofs.Common.{◌≡◌, ◌≤◌, get_or, set, IfSome, sym, refl, ap, ◌∙◌, subst, arith, length-set, below_more}
 use Rattle.std.proofs.lemmas.List.{get_or-replicate, get_or-set_same, get_or-set_other}
+use Rattle.ranking.specs.Pairings.{LawfulPairing, holding_of}
 use Rattle.board.specs.Calls.{market_at, state_at, lane_byte}
+use Rattle.board.specs.declared.rows.Row.{Row}
 use Rattle.board.proofs.RankTables.{lawful_table}
-use Rattle.board.proofs.BoardPairings.{stream_holds_lane, pairing_is}
+use Rattle.board.proofs.BoardPairings.{stream_holds_lane, pairing_is, pairing_lawful, pairing_holds}
 use Rattle.board.proofs.tables.Tables.pairing.Goals as goal
 
 pub loop-stream-init : goal.loop-stream-init
@@ -11,7 +13,7 @@ loop-stream-init c = (refl, λ i h. absurd (omega arith), λ i _ h. get_or-repli
 pub lane_byte-requires : goal.lane_byte-requires
 lane_byte-requires c =
     let t = c.args.self.now in
-    record { is_a_lane = subst (λ o. IfSome o (λ q. t.ranks.streams ≤ q)) (sym c.holding.ensures.is_the_holding) (stream_holds_lane (market_at t) (lawful_table t.ranks) (state_at t) t.kept c.loop-stream.stream (omega arith)) }
+    record { is_a_lane = subst (λ o. IfSome o (λ q. t.ranks.streams ≤ q)) (sym (ap (λ (r : Row). r.holding) c.row.ensures.is_the_row)) (stream_holds_lane (market_at t) (lawful_table t.ranks) (state_at t) t.kept c.loop-stream.stream (omega arith)) }
 
 pub loop-stream-preserved : goal.loop-stream-preserved
 loop-stream-preserved c =
@@ -20,7 +22,7 @@ loop-stream-preserved c =
     let i = c.loop-stream.stream in
     let inv = c.loop-stream.invariant in
     let byte = c.lane_byte.result in
-    let is : byte ≡ lane_byte t.ranks.streams ((state_at t).holding i) = c.lane_byte.ensures.is_the_byte ∙ ap (lane_byte t.ranks.streams) c.holding.ensures.is_the_holding in (
+    let is : byte ≡ lane_byte t.ranks.streams ((state_at t).holding i) = c.lane_byte.ensures.is_the_byte ∙ ap (λ (r : Row). lane_byte t.ranks.streams r.holding) c.row.ensures.is_the_row in (
       length-set lanes i byte ∙ inv.0,
       below_more (λ k. get_or (set lanes i byte) k 0 ≡ lane_byte t.ranks.streams ((state_at t).holding k)) i
           (λ k h. get_or-set_other lanes i k byte 0 (omega arith) ∙ inv.1 k h)
@@ -31,9 +33,14 @@ loop-stream-preserved c =
 pub returns : goal.returns
 returns c =
     let t = c.args.self.now in
+    let m = market_at t in
+    let law = lawful_table t.ranks in
     let inv = c.loop-stream.invariant in
     let all : c.loop-stream.stream ≡ t.ranks.streams = omega arith in
+    let is = pairing_is m law (state_at t) t.kept c.loop-stream.lanes (omega arith) (λ i h. inv.1 i (omega arith)) in
     record {
-      is_the_pairing = pairing_is (market_at t) (lawful_table t.ranks) (state_at t) t.kept c.loop-stream.lanes (omega arith) (λ i h. inv.1 i (omega arith));
+      is_the_pairing = is;
       has_nobody_past_the_streams = λ i h l. inv.2 i (omega arith) l;
+      is_a_lawful_pairing = subst (LawfulPairing m) (sym is) (pairing_lawful m law (state_at t) t.kept);
+      holds_as_the_board = ap (holding_of m) is ∙ pairing_holds m law (state_at t) t.kept;
     }

@@ -1,9 +1,0 @@
-use Rattle.std.proofs.Common.{◌≡◌, ℕ, ◌<◌, true, length}
-use Rattle.board.specs.Kept.{kept_at}
-use Rattle.board.specs.Meaning.{state_of, market_in}
-use Rattle.board.proofs.soundness.is_kept.Given as goal
-
-abbrev pub invariant-loop-a : goal.invariant-loop-a
-invariant-loop-a l =
-    ((a : ℕ) → a < l.a → (b : ℕ) → kept_at (market_in l.ranks) (state_of l.rows) a b ≡ true)
-    × (0 < l.a → (length l.rows.holdings ≡ 32) × (length l.rows.open_sets ≡ 32) × (length l.rows.bidders ≡ 32))

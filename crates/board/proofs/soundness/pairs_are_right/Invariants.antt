@@ -1,7 +1,0 @@
-use Rattle.std.proofs.Common.{◌≡◌, ℕ, ◌<◌, true}
-use Rattle.board.specs.Kept.{open_right}
-use Rattle.board.specs.Meaning.{state_of, market_in}
-use Rattle.board.proofs.soundness.pairs_are_right.Given as goal
-
-abbrev pub invariant-loop-b : goal.invariant-loop-b
-invariant-loop-b l = (b : ℕ) → b < l.b → open_right (market_in l.ranks) (state_of l.rows) l.a b ≡ true
