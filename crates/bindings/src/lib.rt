@@ -7,6 +7,7 @@ use board::turned::Turned;
 use ranking::figures::{LaneFigures, StreamFigures};
 use ranking::interface::Ranking;
 use ranking::listing::Listing;
+use ranking::pairing::NOBODY;
 use ranking::scorer::Scoring;
 use record::refusal::Refusal;
 use sets::Members;
@@ -19,28 +20,6 @@ const BLOCK: usize = 148;
 
 /// The words of a given start: 32 holdings, 32 open sets, 32 sets of bidders.
 const START: usize = 96;
-
-// A set by its mask.
-fn members_of(mask: u32) -> Members {
-    let mut members = Members::none();
-    for k in 0..32u8 {
-        if (mask >> k) % 2 == 1 {
-            members.insert(k);
-        }
-    }
-    members
-}
-
-// The mask of a set.
-fn mask_of(members: Members) -> u32 {
-    let mut mask = 0u32;
-    for k in 0..32u8 {
-        if members.contains(k) {
-            mask |= 1u32 << k;
-        }
-    }
-    mask
-}
 
 // The rows of a given start, if it has 96 words and every holding is a byte; 255 is nobody.
 fn rows_of(start: &[u32]) -> Option<Rows> {
@@ -56,70 +35,48 @@ fn rows_of(start: &[u32]) -> Option<Rows> {
     for (party, row) in rows.iter_mut().enumerate() {
         let held = u8::try_from(start[party]).ok()?;
         *row = Row {
-            holding: (held != 255).then_some(held),
-            open_set: members_of(start[32 + party]),
-            bidders: members_of(start[64 + party]),
+            holding: (held != NOBODY).then_some(held),
+            open_set: Members::from(start[32 + party]),
+            bidders: Members::from(start[64 + party]),
         };
     }
     Some(Rows { rows })
 }
 
-// What a question of one party answered, and the same for one that was refused.
-fn said(answer: Result<u32, Refusal>) -> u32 {
-    match answer {
-        Ok(word) => word,
-        Err(_) => REFUSED,
-    }
-}
-
-// Whom a party holds, 255 for nobody.
-fn holding_word<R: Ranking>(board: &Board<R>, party: u8) -> Result<u32, Refusal> {
-    match board.holding(party)? {
-        Some(held) => Ok(held as u32),
-        None => Ok(255),
-    }
-}
-
-fn open_word<R: Ranking>(board: &Board<R>, party: u8) -> Result<u32, Refusal> {
-    Ok(mask_of(board.open_set(party)?))
-}
-
-fn bidders_word<R: Ranking>(board: &Board<R>, party: u8) -> Result<u32, Refusal> {
-    Ok(mask_of(board.bidders(party)?))
-}
-
-fn content_word<R: Ranking>(board: &Board<R>, party: u8) -> Result<u32, Refusal> {
-    Ok(u32::from(board.is_content(party)?))
+// What the board answers of a party: its holding, 255 for nobody, its open set, its bidders, and whether it is content.
+fn party_words<R: Ranking>(board: &Board<R>, party: u8) -> Result<[u32; 4], Refusal> {
+    Ok([
+        board.holding(party)?.unwrap_or(NOBODY).into(),
+        board.open_set(party)?.into(),
+        board.bidders(party)?.into(),
+        board.is_content(party)?.into(),
+    ])
 }
 
 // The three words of an answer.
-fn answer_words(answer: Result<Turned, Refusal>) -> (u32, u32, u32) {
+fn answer_words(answer: Result<Turned, Refusal>) -> [u32; 3] {
     match answer {
-        Ok(Turned::Idle) => (0, 0, 0),
-        Ok(Turned::Moved { offers, chains }) => (1, offers as u32, chains as u32),
-        Err(refusal) => (2, refusal.number() as u32, refusal.place() as u32),
+        Ok(Turned::Idle) => [0, 0, 0],
+        Ok(Turned::Moved { offers, chains }) => [1, offers.into(), chains.into()],
+        Err(refusal) => [2, refusal.number().into(), refusal.place().into()],
     }
 }
 
 // Writes a block of the trace, whose 148 words are given.
-fn put_block<R: Ranking>(board: &Board<R>, answer: (u32, u32, u32), block: &mut [u32]) {
+fn put_block<R: Ranking>(board: &Board<R>, answer: [u32; 3], block: &mut [u32]) {
     if block.len() != BLOCK {
         return;
     }
-    block[0] = answer.0;
-    block[1] = answer.1;
-    block[2] = answer.2;
-    for party in 0..32u8 {
-        let at = 3 + 4 * party as usize;
-        block[at] = said(holding_word(board, party));
-        block[at + 1] = said(open_word(board, party));
-        block[at + 2] = said(bidders_word(board, party));
-        block[at + 3] = said(content_word(board, party));
+    block[..3].copy_from_slice(&answer);
+    for (party, words) in (0..32u8).zip(block[3..131].chunks_exact_mut(4)) {
+        let told = party_words(board, party).unwrap_or([REFUSED; 4]);
+        for (word, part) in words.iter_mut().zip(told) {
+            *word = part;
+        }
     }
-    block[131] = u32::from(board.is_standstill());
-    let lanes = board.pairing();
-    for stream in 0..16usize {
-        block[132 + stream] = lanes[stream] as u32;
+    block[131] = board.is_standstill().into();
+    for (word, lane) in block[132..].iter_mut().zip(board.pairing()) {
+        *word = lane.into();
     }
 }
 
@@ -128,18 +85,18 @@ fn play<R: Ranking + Drop>(mut board: Board<R>, turns: &[u8], trace: &mut [u32])
     if turns.len() > 100_000 || trace.len() < BLOCK * (turns.len() + 1) {
         return REFUSED;
     }
-    put_block(&board, (3, 0, 0), &mut trace[0..BLOCK]);
-    for k in 0..turns.len() {
-        let answer = board.turn(turns[k]);
-        let at = BLOCK * (k + 1);
-        put_block(&board, answer_words(answer), &mut trace[at..at + BLOCK]);
+    let (first, blocks) = trace.split_at_mut(BLOCK);
+    put_block(&board, [3, 0, 0], first);
+    for (party, block) in turns.iter().zip(blocks.chunks_exact_mut(BLOCK)) {
+        let answer = board.turn(*party);
+        put_block(&board, answer_words(answer), block);
     }
     (BLOCK * (turns.len() + 1)) as u32
 }
 
 // Plays on a new board, or on one from a given start.
 fn play_from<R: Ranking + Drop>(ranking: R, start: &[u32], turns: &[u8], trace: &mut [u32]) -> u32 {
-    if start.len() == 0 {
+    if start.is_empty() {
         return play(Board::new(ranking), turns, trace);
     }
     let Some(rows) = rows_of(start) else {
@@ -173,48 +130,26 @@ fn scoring_of(figures: &[u16], streams: u8) -> Option<Scoring> {
     if figures.len() % 3 != 0 || parties < split || split > 16 || parties - split > 16 {
         return None;
     }
-    let mut of_streams = [StreamFigures {
-        rate: 0,
-        wish: 0,
-        reach: 0,
-    }; 16];
-    for i in 0..split {
-        of_streams[i] = StreamFigures {
-            rate: figures[3 * i],
-            wish: figures[3 * i + 1],
-            reach: figures[3 * i + 2],
+    let (first, others) = figures.split_at(3 * split);
+    let mut of_streams = [StreamFigures::default(); 16];
+    for (stream, figures) in of_streams.iter_mut().zip(first.chunks_exact(3)) {
+        let &[rate, wish, reach] = figures else {
+            return None;
         };
+        *stream = StreamFigures { rate, wish, reach };
     }
-    let mut of_lanes = [LaneFigures {
-        wear: 0,
-        wish: 0,
-        reach: 0,
-    }; 16];
-    for j in split..parties {
-        of_lanes[j - split] = LaneFigures {
-            wear: figures[3 * j],
-            wish: figures[3 * j + 1],
-            reach: figures[3 * j + 2],
+    let mut of_lanes = [LaneFigures::default(); 16];
+    for (lane, figures) in of_lanes.iter_mut().zip(others.chunks_exact(3)) {
+        let &[wear, wish, reach] = figures else {
+            return None;
         };
-    }
-    fill_scoring(&of_streams, split, &of_lanes, parties - split)
-}
-
-// A scoring filled from the first records of two lists.
-fn fill_scoring(
-    of_streams: &[StreamFigures],
-    streams: usize,
-    of_lanes: &[LaneFigures],
-    lanes: usize,
-) -> Option<Scoring> {
-    if streams > of_streams.len() || lanes > of_lanes.len() {
-        return None;
+        *lane = LaneFigures { wear, wish, reach };
     }
     let mut scoring = Scoring::new();
-    match scoring.fill(&of_streams[0..streams], &of_lanes[0..lanes]) {
-        Ok(_) => Some(scoring),
-        Err(_) => None,
-    }
+    scoring
+        .fill(&of_streams[..split], &of_lanes[..parties - split])
+        .ok()?;
+    Some(scoring)
 }
 
 /// Plays turns on a board over a scoring, and writes a trace.

@@ -2,7 +2,7 @@ ghost use Rattle.std.specs.Prelude.{◌≡◌};
 ghost use Rattle.ranking.specs.Figures.{stream_figured, lane_figured};
 
 /// The figures of a stream: its rate, the wear that it wishes of a lane, and how far from its wish it goes.
-#[derive(Clone, Copy)]
+#[derive(Clone, Copy, Default)]
 pub struct StreamFigures {
     pub rate: u16,
     pub wish: u16,
@@ -10,7 +10,7 @@ pub struct StreamFigures {
 }
 
 /// The figures of a lane: its wear, the rate that it wishes of a stream, and how far from its wish it goes.
-#[derive(Clone, Copy)]
+#[derive(Clone, Copy, Default)]
 pub struct LaneFigures {
     pub wear: u16,
     pub wish: u16,
