@@ -1,8 +1,8 @@
 -- A board's pairing is lawful and holds as the board does.
 use Rattle.std.proofs.Common.{◌≡◌, ℕ, ◌+◌, ◌-◌, ◌<◌, ◌≤◌, ltb, ◌⊎◌, List, length, get_or, take, is_some, IfSome, Some, None, Option, sym, refl, ap, ◌∙◌, inl, inr, ⊎_elim, arith}
 use mathlib.Core.Path.{fun_ext}
-use Rattle.std.proofs.lemmas.List.FromFn.{length-map-range_with_len, get_or-map-range_with_len}
-use Rattle.std.proofs.lemmas.List.{ext_get_or, get_or-take, length-take-le}
+use Rattle.std.proofs.lemmas.List.FromFn.{length-map-range_with_len, get_or-map-range_with_len, fill_by_all}
+use Rattle.std.proofs.lemmas.List.{get_or-take, length-take-le}
 use Rattle.std.proofs.lemmas.Option.{same_Some}
 use Rattle.std.proofs.lemmas.Bool.{lt-ltb, le-ltb, cond-true, cond-false, cases_lt, both_ways}
 use Rattle.record.specs.Lists.{place_in}
@@ -132,6 +132,4 @@ module _ (m : Market) (law : LawfulMarket m) (σ : State) (kept : Kept m σ) whe
   -- the bytes of the streams
   pub pairing_is : (lanes : List ℕ) → m.streams ≤ length lanes → ((i : ℕ) → i < m.streams → get_or lanes i 0 ≡ lane_byte m.streams (σ.holding i)) → take m.streams lanes ≡ pairing_at m σ
   pairing_is lanes l h =
-      let size = length-take-le m.streams lanes l in
-      ext_get_or 0 (take m.streams lanes) (pairing_at m σ) (size ∙ sym (length-map-range_with_len (λ i. lane_byte m.streams (σ.holding i)) 0 m.streams))
-      (λ i k. let b : i < m.streams = omega arith in get_or-take m.streams lanes i 0 b ∙ h i b ∙ sym (byte_at i b))
+      fill_by_all (λ i. lane_byte m.streams (σ.holding i)) (take m.streams lanes) m.streams 0 (length-take-le m.streams lanes l) (λ i k. get_or-take m.streams lanes i 0 k ∙ h i k)

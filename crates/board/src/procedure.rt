@@ -30,7 +30,8 @@ fn lane_byte(held: Option<u8>, streams: u8) -> u8
 }
 
 impl RankTable {
-    // The numbers of the parties on the other side: the first, and the one past the last.
+    // The numbers of the parties on the other side: the first, and the one past the last. They are two numbers and no `Range`,
+    // since a loop over a `Range` that a call answered asks the range for each number, and its proof has no counter.
     fn other_parties(&self, party: u8) -> (u8, u8)
         requires is_a_party { party < party_count (market_in self.now) }
         ensures are_few { (result.0 ≤ result.1) × (result.1 ≤ 32) }
@@ -76,6 +77,7 @@ impl Tables {
             ranks: &ranks,
             rows: &rows,
         };
+        // no `then_some`, since `Tables` are made only once the rows are known to be kept
         if unchecked.is_kept() {
             Some(Tables { ranks, rows })
         } else {
@@ -90,12 +92,13 @@ impl Tables {
     {
         let open = self.rows.row(party).open_set;
         let (first, end) = self.ranks.other_parties(party);
+        // a loop, which is shorter than a chain over pairs of a rank and a party
         let mut found = None;
-        let mut best = None;
+        let mut best_rank = None;
         for other in first..end {
             let rank = self.ranks.rank(party, other);
-            if is_better(rank, best) && open.contains(other) {
-                best = rank;
+            if is_better(rank, best_rank) && open.contains(other) {
+                best_rank = rank;
                 found = Some(other);
             }
         }
@@ -250,6 +253,7 @@ impl Tables {
     {
         let streams = self.ranks.streams;
         let mut lanes = [NOBODY; MOST_STREAMS];
+        // over the numbers of the streams, which are their places too; the places past them stay as they are
         for stream in 0..streams {
             lanes[stream as usize] = lane_byte(self.rows.row(stream).holding, streams);
         }

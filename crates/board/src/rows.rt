@@ -39,6 +39,7 @@ impl Rows {
             bidders: Members::none(),
         };
         let mut rows = [empty; MOST_PARTIES];
+        // a loop: with `array::from_fn` the proof did not learn what its closure got from `other_side`
         for party in 0..ranks.parties() {
             rows[party as usize].open_set = ranks.other_side(party);
         }

@@ -3,4 +3,4 @@ use Rattle.board.proofs.Seeking.{Found}
 use Rattle.board.proofs.tables.Tables.best_open.Given as goal
 
 abbrev pub invariant-loop-other : goal.invariant-loop-other
-invariant-loop-other l = Found (market_at l.self) (state_at l.self) l.party l.other l.found l.best
+invariant-loop-other l = Found (market_at l.self) (state_at l.self) l.party l.other l.found l.best_rank
