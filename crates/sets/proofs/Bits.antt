@@ -1,101 +1,77 @@
--- What the bits of a union, a difference and a single bit are, and the sets that they make.
-use Rattle.std.proofs.Common.{◌≡◌, ℕ, zero, suc, ◌+◌, ◌-◌, ◌*◌, ◌/◌, ◌%◌, ◌^◌, ◌<◌, ◌≤◌, Bool, true, false, not, ◌&&◌, ◌||◌, eqb, sym, refl, ap, ◌∙◌, ⊎_elim, mod-lt, pow-suc, arith}
-use native.Mathlib.Nat.{mul-mod_left, div-eq_of_lt, zero-div, div_self}
-use lib.Bits.{bit_and, bit_or, bit_xor, or_shr, or_mod, and_shr, and_mod, xor_shr, xor_mod}
-use Rattle.std.proofs.lemmas.Nat.{pow_pos, pow_below, pow-add, shl-shr, shr-shr, div_below, one_shl}
-use Rattle.std.proofs.lemmas.Bool.{cases_order, eq-eqb, ne_eqb, eqb-false}
-use Rattle.std.proofs.Math.Bool.{or_comm}
+-- The members of a set after one more bit, or one bit less.
+use Rattle.std.proofs.Common.{◌≡◌, ℕ, min, ◌-◌, ◌*◌, ◌%◌, ◌^◌, ◌<◌, ◌≤◌, Bool, true, false, not, ◌&&◌, ◌||◌, eqb, sym, refl, ap, ◌∙◌, ⊎_elim, arith}
+use lib.Bits.{bit_and, bit_or, and_le_l}
+use mir.Syntax.{w32}
+use Rattle.std.specs.Int.{bit_at, bit_not, trailing_zeros}
+use Rattle.std.proofs.lemmas.Nat.Bits.{bit_at-trailing_zeros, bit_at_set_same, bit_at_set_other, bit_at_clear_same, bit_at_clear_other, bit_at_above, bit_at-zero, bit_at_and, bit_at_not, bit_at-lt, same_from_bits_below}
+use Rattle.std.proofs.lemmas.Bool.{both_ways, cases_eq, cases_lt, ne_eqb, eq-eqb}
+use Rattle.std.proofs.lemmas.Bool.Decides.{nat_tests}
 use Rattle.sets.specs.Sets.{has}
-
-or_bit : (p q : ℕ) → p < 2 → q < 2 → eqb (bit_or p q) 1 ≡ (eqb p 1 || eqb q 1)
-or_bit zero zero a b = refl
-or_bit zero (suc zero) a b = refl
-or_bit zero (suc (suc q)) a b = grind arith
-or_bit (suc zero) zero a b = refl
-or_bit (suc zero) (suc zero) a b = refl
-or_bit (suc zero) (suc (suc q)) a b = grind arith
-or_bit (suc (suc p)) q a b = grind arith
-
-low : (n : ℕ) → n % 2 < 2
-low n = mod-lt n (omega arith)
-
-diff_bit : (p q : ℕ) → p < 2 → q < 2 → eqb (bit_xor p (bit_and p q)) 1 ≡ (not (eqb q 1) && eqb p 1)
-diff_bit zero zero a b = refl
-diff_bit zero (suc zero) a b = refl
-diff_bit zero (suc (suc q)) a b = grind arith
-diff_bit (suc zero) zero a b = refl
-diff_bit (suc zero) (suc zero) a b = refl
-diff_bit (suc zero) (suc (suc q)) a b = grind arith
-diff_bit (suc (suc p)) q a b = grind arith
-
-pub has_or : (a b j : ℕ) → has (bit_or a b) j ≡ (has a j || has b j)
-unfolding has
-has_or a b j =
-    ap (λ x. eqb (x % 2) 1) (or_shr a b j)
-    ∙ ap (λ x. eqb x 1) (or_mod (a / 2 ^ j) (b / 2 ^ j) 1)
-    ∙ or_bit (a / 2 ^ j % 2) (b / 2 ^ j % 2) (low (a / 2 ^ j)) (low (b / 2 ^ j))
-
-pub has_less : (a b j : ℕ) → has (bit_xor a (bit_and a b)) j ≡ (not (has b j) && has a j)
-unfolding has
-has_less a b j =
-    ap (λ x. eqb (x % 2) 1) (xor_shr a (bit_and a b) j ∙ ap (bit_xor (a / 2 ^ j)) (and_shr a b j))
-    ∙ ap (λ x. eqb x 1) (xor_mod (a / 2 ^ j) (bit_and (a / 2 ^ j) (b / 2 ^ j)) 1 ∙ ap (bit_xor (a / 2 ^ j % 2)) (and_mod (a / 2 ^ j) (b / 2 ^ j) 1))
-    ∙ diff_bit (a / 2 ^ j % 2) (b / 2 ^ j % 2) (low (a / 2 ^ j)) (low (b / 2 ^ j))
-
--- the set of one member
-pub has_one : (k j : ℕ) → has (2 ^ k) j ≡ eqb j k
-unfolding has
-has_one k j = ⊎_elim same (⊎_elim below above) (cases_order j k)
-  where
-    same : j ≡ k → has (2 ^ k) j ≡ eqb j k
-    same e = let d : 2 ^ k / 2 ^ j ≡ 1 = rw e (div_self (pow_pos k)) in ap (λ x. eqb (x % 2) 1) d ∙ sym (eq-eqb j k e)
-
-    below : j < k → has (2 ^ k) j ≡ eqb j k
-    below l =
-        let d = k - j - 1 in
-        let e : k ≡ suc d + j = omega arith in
-        let q : 2 ^ k ≡ 2 ^ suc d * 2 ^ j = ap (λ x. 2 ^ x) e ∙ pow-add 2 (suc d) j in
-        let r : 2 ^ k / 2 ^ j ≡ 2 ^ suc d = ap (λ x. x / 2 ^ j) q ∙ shl-shr (2 ^ suc d) j in
-        let s : 2 ^ suc d % 2 ≡ 0 = ap (λ x. x % 2) (pow-suc 2 d) ∙ mul-mod_left (2 ^ d) 2 in
-        ap (λ x. eqb x 1) (ap (λ x. x % 2) r ∙ s) ∙ sym (ne_eqb j k (omega arith))
-
-    above : k < j → has (2 ^ k) j ≡ eqb j k
-    above l = ap (λ x. eqb (x % 2) 1) (div-eq_of_lt (pow_below k j l)) ∙ sym (ne_eqb j k (omega arith))
-
-pub has_insert : (m k j : ℕ) → k < 32 → has (bit_or m ((1 * 2 ^ k) % 4294967296)) j ≡ (eqb j k || has m j)
-has_insert m k j h = ap (λ x. has (bit_or m x) j) (one_shl k 32 h) ∙ has_or m (2 ^ k) j ∙ ap (λ x. has m j || x) (has_one k j) ∙ or_comm (has m j) (eqb j k)
-
-pub has_remove : (m k j : ℕ) → k < 32 → has (bit_xor m (bit_and m ((1 * 2 ^ k) % 4294967296))) j ≡ (not (eqb j k) && has m j)
-has_remove m k j h = ap (λ x. has (bit_xor m (bit_and m x)) j) (one_shl k 32 h) ∙ has_less m (2 ^ k) j ∙ ap (λ x. not x && has m j) (has_one k j)
 
 pub has_none : (j : ℕ) → has 0 j ≡ false
 unfolding has
-has_none j = ap (λ x. eqb (x % 2) 1) (zero-div (2 ^ j))
+has_none j = ap (λ b. eqb b 1) (bit_at-zero j)
 
 -- a set of 32 bits has no member above 31
 pub has_above : (m k : ℕ) → m < 2 ^ 32 → 32 ≤ k → has m k ≡ false
 unfolding has
-has_above m k f h = ap (λ x. eqb (x % 2) 1) (div-eq_of_lt (⊎_elim (λ e. rw (← e) f) (⊎_elim (λ l. omega (arith, pow_below 32 k l)) (λ l. omega arith)) (cases_order 32 k)))
+has_above m k f h = ap (λ b. eqb b 1) (bit_at_above m 32 k f h)
 
--- a set of few bits with no member is the empty one
-no_members_lem : (w m : ℕ) → m < 2 ^ w → ((j : ℕ) → has m j ≡ false) → m ≡ 0
+-- one bit decides: it is as wanted at k, and as it was elsewhere
+at_one : (x y j k : ℕ) (a b : Bool) → (j ≡ k → eqb x 1 ≡ a) → (j ≡ k → b ≡ a) → ((j ≡ k → ⊥) → x ≡ y) → ((j ≡ k → ⊥) → b ≡ eqb y 1) → eqb x 1 ≡ b
+at_one x y j k a b same right other left = ⊎_elim (λ e. same e ∙ sym (right e)) (λ n. ap (λ v. eqb v 1) (other n) ∙ sym (left n)) (cases_eq j k)
+
+pub has_insert : (m k j : ℕ) → k < 32 → has (bit_or m ((1 * 2 ^ k) % 4294967296)) j ≡ (eqb j k || has m j)
 unfolding has
-no_members_lem zero m h f = omega arith
-no_members_lem (suc w) m h f =
-    let z = eqb-false (m / 2 ^ 0 % 2) 1 (f 0) in
-    let b : m < 2 ^ w * 2 = rw (pow-suc 2 w) at h in
-    let i = no_members_lem w (m / 2) (div_below m 2 (2 ^ w) (omega arith) b) (λ j. ap (λ x. eqb (x % 2) 1) (shr-shr m 1 j) ∙ f (1 + j)) in
-    omega (arith, low m)
+has_insert m k j h =
+    at_one (bit_at (bit_or m ((1 * 2 ^ k) % 4294967296)) j) (bit_at m j) j k true (eqb j k || eqb (bit_at m j) 1)
+    (λ e. rw e (ap (λ v. eqb v 1) (bit_at_set_same w32 m k h))) (λ e. ap (λ b. b || eqb (bit_at m j) 1) (eq-eqb j k e))
+    (λ n. bit_at_set_other w32 m k h j n) (λ n. ap (λ b. b || eqb (bit_at m j) 1) (ne_eqb j k n))
 
-excluded : (x y : Bool) → (not y && x) ≡ false → x ≡ true → y ≡ true
-excluded x y e f = grind arith
+pub has_remove : (m k j : ℕ) → m < 2 ^ 32 → k < 32 → has (bit_and m (bit_not w32 ((1 * 2 ^ k) % 4294967296))) j ≡ (not (eqb j k) && has m j)
+unfolding has
+has_remove m k j f h = ⊎_elim below above (cases_lt j 32)
+  where
+    and_false : (b : Bool) → (b && false) ≡ false
+    and_false true = refl
+    and_false false = refl
 
-includes : (x y : Bool) → (x ≡ true → y ≡ true) → (not y && x) ≡ false
-includes x y f = grind arith
+    cut : ℕ
+    cut = bit_and m (bit_not w32 ((1 * 2 ^ k) % 4294967296))
 
--- what is left of one set without another is empty exactly when the first is within the second
-pub within_from : (a b : ℕ) → bit_xor a (bit_and a b) ≡ 0 → (j : ℕ) → has a j ≡ true → has b j ≡ true
-within_from a b e j = excluded (has a j) (has b j) (sym (has_less a b j) ∙ ap (λ x. has x j) e ∙ has_none j)
+    below : j < 32 → eqb (bit_at cut j) 1 ≡ (not (eqb j k) && eqb (bit_at m j) 1)
+    below l =
+        at_one (bit_at cut j) (bit_at m j) j k false (not (eqb j k) && eqb (bit_at m j) 1)
+        (λ e. rw e (ap (λ v. eqb v 1) (bit_at_clear_same w32 m k h))) (λ e. ap (λ b. not b && eqb (bit_at m j) 1) (eq-eqb j k e))
+        (λ n. bit_at_clear_other w32 m k h j l n) (λ n. ap (λ b. not b && eqb (bit_at m j) 1) (ne_eqb j k n))
 
-pub within_to : (a b : ℕ) → bit_xor a (bit_and a b) < 2 ^ 32 → ((j : ℕ) → has a j ≡ true → has b j ≡ true) → bit_xor a (bit_and a b) ≡ 0
-within_to a b h f = no_members_lem 32 (bit_xor a (bit_and a b)) h (λ j. has_less a b j ∙ includes (has a j) (has b j) (f j))
+    above : 32 ≤ j → eqb (bit_at cut j) 1 ≡ (not (eqb j k) && eqb (bit_at m j) 1)
+    above l = ap (λ v. eqb v 1) (bit_at_above cut 32 j (omega (arith, and_le_l m (bit_not w32 ((1 * 2 ^ k) % 4294967296)))) l) ∙ sym (ap (λ v. not (eqb j k) && eqb v 1) (bit_at_above m 32 j f l) ∙ and_false (not (eqb j k)))
+
+-- a mask without the bits of another is 0 exactly when the first set is within the second
+left : (x y : ℕ) → x < 2 → y < 2 → min x (1 - y) ≡ 0 → eqb x 1 ≡ true → eqb y 1 ≡ true
+left x y f g e h = grind (arith, nat_tests)
+
+none_left : (x y : ℕ) → x < 2 → y < 2 → (eqb x 1 ≡ true → eqb y 1 ≡ true) → min x (1 - y) ≡ 0
+none_left x y f g h = grind (arith, nat_tests)
+
+module _ (a b : ℕ) (f : a < 2 ^ 32) (g : b < 2 ^ 32) where
+  rest_at : (j : ℕ) → j < 32 → bit_at (bit_and a (bit_not w32 b)) j ≡ min (bit_at a j) (1 - bit_at b j)
+  rest_at j l = bit_at_and a (bit_not w32 b) j ∙ ap (min (bit_at a j)) (bit_at_not w32 b j g l)
+
+  pub within_from : bit_and a (bit_not w32 b) ≡ 0 → (j : ℕ) → has a j ≡ true → has b j ≡ true
+  unfolding has
+  within_from e j h = ⊎_elim
+      (λ l. left (bit_at a j) (bit_at b j) (bit_at-lt a j) (bit_at-lt b j) (sym (rest_at j l) ∙ ap (λ n. bit_at n j) e ∙ bit_at-zero j) h)
+      (λ l. absurd (both_ways false refl (sym (ap (λ v. eqb v 1) (bit_at_above a 32 j f l)) ∙ h)))
+      (cases_lt j 32)
+
+  pub within_to : ((j : ℕ) → has a j ≡ true → has b j ≡ true) → bit_and a (bit_not w32 b) ≡ 0
+  unfolding has
+  within_to h = same_from_bits_below 32 (bit_and a (bit_not w32 b)) 0 (omega (arith, and_le_l a (bit_not w32 b))) (omega arith)
+      (λ j l. rest_at j l ∙ none_left (bit_at a j) (bit_at b j) (bit_at-lt a j) (bit_at-lt b j) (h j) ∙ sym (bit_at-zero j))
+
+-- the lowest bit that is 1 is the lowest member
+pub lowest : (m : ℕ) → 0 < m → m < 2 ^ 32 → (trailing_zeros w32 m < 32) × (has m (trailing_zeros w32 m) ≡ true) × ((j : ℕ) → j < trailing_zeros w32 m → has m j ≡ false)
+unfolding has
+lowest m p f = let l = bit_at-trailing_zeros w32 m p f in (l.0, ap (λ v. eqb v 1) l.1, λ j h. ap (λ v. eqb v 1) (l.2 j h))

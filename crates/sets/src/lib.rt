@@ -1,7 +1,7 @@
 //! Sets of parties: a set of the numbers 0 to 31 as a bit mask. Nothing outside this crate speaks of bits.
 #![tactic(auto)]
 
-ghost use Rattle.std.specs.Prelude.{◌≡◌, ℕ, ◌<◌, Bool, true, false, not, ◌&&◌, ◌||◌, Decides, ◌==◌, nat_le, nat_lt};
+ghost use Rattle.std.specs.Prelude.{◌≡◌, ℕ, ◌<◌, ◌≤◌, Bool, true, false, not, ◌&&◌, ◌||◌, Decides, IfSome, MatchOption, ◌==◌, nat_le, nat_lt};
 ghost use Rattle.sets.specs.Sets.{has};
 
 /// A set of numbers, 0 to 31: of parties, or of the parties of one side by their numbers within it.
@@ -44,21 +44,36 @@ impl Members {
         }
     }
 
-    /// Takes `k` away, if it is a member.
+    /// Takes `k` away, if it is a member; the mask grows no larger.
     pub fn remove(&mut self, k: u8)
         ensures takes_one_away { (j : ℕ) → has self.new.0 j ≡ (not (j == k) && has self.old.0 j) }
+        ensures leaves_no_larger_mask { self.new.0 ≤ self.old.0 }
     {
-        let bits = self.0;
+        let mask = self.0;
         if k < 32 {
-            self.0 = bits ^ (bits & (1u32 << k));
+            self.0 = mask & !(1u32 << k);
         }
+    }
+
+    /// Takes the lowest member away and answers it, if there is one.
+    pub fn pop_first(&mut self) -> Option<u8>
+        ensures is_the_lowest { MatchOption result ((j : ℕ) → has self.old.0 j ≡ false) (λ k. (k < 32) × (has self.old.0 k ≡ true) × ((j : ℕ) → j < k → has self.old.0 j ≡ false)) }
+        ensures takes_it_away { MatchOption result (self.new ≡ self.old) (λ k. (j : ℕ) → has self.new.0 j ≡ (not (j == k) && has self.old.0 j)) }
+        ensures leaves_a_smaller_mask { IfSome result (λ _. self.new.0 < self.old.0) }
+    {
+        if self.0 == 0 {
+            return None;
+        }
+        let first = self.0.trailing_zeros() as u8;
+        self.remove(first);
+        Some(first)
     }
 
     /// Whether every member of this set is a member of the other.
     pub fn is_within(self, other: Members) -> bool
         ensures says_whether { Decides result ((j : ℕ) → has self.0 j ≡ true → has other.0 j ≡ true) }
     {
-        (self.0 ^ (self.0 & other.0)) == 0
+        self.0 & !other.0 == 0
     }
 }
 
