@@ -15,4 +15,5 @@ mod Partners
 mod Links
 mod BoardPairings
 mod Checking
+mod AtTables
 mod Ranges

@@ -4,7 +4,7 @@ use Rattle.std.proofs.lemmas.Bool.{false_from_ne_true, and_from, and_right, and_
 use Rattle.std.proofs.lemmas.Bool.Decides.{nat_tests}
 use Rattle.ranking.specs.Market.{Market, prefers, LawfulMarket}
 use Rattle.board.specs.Sides.{across}
-use Rattle.ranking.specs.Stability.{is_party, rank_of, held_rank, wants}
+use Rattle.ranking.specs.Stability.{is_party, rank_of, wants}
 use Rattle.ranking.proofs.Blocking.{prefers_same}
 use Rattle.board.specs.State.{State, Content, Best}
 use Rattle.board.specs.Kept.{Kept}
@@ -56,12 +56,6 @@ module _ (m : Market) (law : LawfulMarket m) (σ : State) (p : ℕ) where
   pub beside : (r : ℕ) → across m p r ≡ false → is_some (m.rank p r) ≡ false
   beside r e = false_from_ne_true (is_some (m.rank p r)) (λ h. both_ways (across m p r) e (ranked_across m law p r h))
 
-  pub found_none : (first end : ℕ) → ((j : ℕ) → across m p j ≡ (leb first j && ltb j end)) → Found m σ p first None None
-  found_none first end h = record { least = λ r l _. never_better (m.rank p r) None (beside r (h r ∙ below first end r l)); is = refl }
-    where
-      below : (first end r : ℕ) → r < first → (leb first r && ltb r end) ≡ false
-      below first end r l = grind (arith, nat_tests)
-
   split : {P : ℕ → Type 0} (n : ℕ) → ((k : ℕ) → k < n → P k) → P n → (k : ℕ) → k < n + 1 → P k
   split {P} n f g k h = ⊎_elim (λ l. f k l) (λ l. let e : k ≡ n = omega arith in rw e g) (cases_lt k n)
 
@@ -101,13 +95,7 @@ module _ (m : Market) (law : LawfulMarket m) (σ : State) (p : ℕ) where
       above first end n r l i = grind (arith, nat_tests)
 
 module _ (m : Market) (law : LawfulMarket m) (σ : State) (kept : Kept m σ) (p : ℕ) where
-  -- where p ranks none of its open set, or holds the best of them, it is content; otherwise the best is sought
-  pub none_content : BestOpen m σ p None → Content m σ p
-  none_content none q = ⊎_elim
-      (λ o. and_right (σ.opens p q) _ (never_better (m.rank p q) (held_rank m σ.holding p) (none q o)))
-      (λ o. and_left (σ.opens p q) _ o)
-      (cases_Bool (σ.opens p q))
-
+  -- where p holds the best of its open set, it is content; otherwise the best is sought
   pub best_held_content : (q : ℕ) → BestOpen m σ p (Some q) → σ.holding p ≡ Some q → Content m σ p
   best_held_content q best e r = ⊎_elim
       (λ o. and_right (σ.opens p r) _ (ap (λ h. prefers (m.rank p r) (rank_of (m.rank p) h)) e ∙ best.2 r o))

@@ -30,8 +30,8 @@ fn lane_byte(held: Option<u8>, streams: u8) -> u8
 }
 
 impl RankTable {
-    // The numbers of the parties on the other side: the first, and the one past the last. They are two numbers and no `Range`,
-    // since a loop over a `Range` that a call answered asks the range for each number, and its proof has no counter.
+    // The numbers of the parties on the other side: the first, and the one past the last.
+    // They are no `Range`, since in the proof of a loop over a `Range` that a call answered there is no counter.
     fn other_parties(&self, party: u8) -> (u8, u8)
         requires is_a_party { party < party_count (market_in self.now) }
         ensures are_few { (result.0 ≤ result.1) × (result.1 ≤ 32) }

@@ -3,8 +3,8 @@ ghost use Rattle.board.specs.RankTables.{table_market, RanksAcross, RanksBounded
 
 use crate::rows::MOST_PARTIES;
 
-/// The sizes and the ranks that a board took from its ranking when it was made: for each party a row with the rank that it gives
-/// each other party, by party numbers.
+/// The sizes and the ranks that a board took from its ranking when it was made: for each party a row with the ranks that it
+/// gives the others, by party numbers.
 #[derive(Drop)]
 pub struct RankTable {
     pub(crate) streams: u8,

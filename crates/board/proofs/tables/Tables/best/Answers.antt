@@ -3,13 +3,8 @@ use Rattle.std.specs.Bool.{then_some}
 use Rattle.board.specs.Calls.{market_at, state_at, Sought}
 use Rattle.board.specs.declared.rows.Row.{Row}
 use Rattle.board.proofs.RankTables.{lawful_table}
-use Rattle.board.proofs.Seeking.{none_content, sought_or_held}
+use Rattle.board.proofs.Seeking.{sought_or_held}
 use Rattle.board.proofs.tables.Tables.best.Goals as goal
-
-pub returns-in_err-found : goal.returns-in_err-found
-returns-in_err-found c =
-    let t = c.args.self.now in
-    record { best_or_content = subst (Sought (market_at t) (state_at t) c.args.party) (sym c.from_residual.ensures) (none_content (market_at t) (lawful_table t.ranks) (state_at t) t.kept c.args.party c.in_err-found.ensures.is_the_best) }
 
 pub returns : goal.returns
 returns c =

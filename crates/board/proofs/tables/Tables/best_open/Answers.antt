@@ -6,13 +6,9 @@ use Rattle.sets.specs.Sets.{has}
 use Rattle.board.specs.declared.rows.Row.{Row}
 use Rattle.board.specs.Calls.{market_at, state_at}
 use Rattle.board.proofs.RankTables.{lawful_table}
-use Rattle.board.proofs.Seeking.{found_none, found_better, found_as_before, found_best}
+use Rattle.board.proofs.Seeking.{found_better, found_as_before, found_best}
 use Rattle.board.proofs.tables.Tables.best_open.Goals as goal
 use Rattle.board.proofs.tables.Tables.best_open.Goals.{then-is_better+then-contains, else-is_better, else-is_better-via-then-is_better+else-contains, else-is_better-via-else-is_better}
-
-pub loop-other-init : goal.loop-other-init
-loop-other-init c =
-    found_none (market_at c.args.self.now) (lawful_table c.args.self.now.ranks) (state_at c.args.self.now) c.args.party c.other_parties-first.result.0 c.other_parties-first.result.1 c.other_parties-first.ensures.are_the_other_side
 
 pub loop-other-preserved : goal.loop-other-preserved
 loop-other-preserved c =

@@ -1,11 +1,5 @@
-use Rattle.std.proofs.Common.{sym, ap, ◌∙◌}
-use Rattle.board.specs.Calls.{market_at, state_at}
-use Rattle.board.specs.declared.rows.Row.{Row}
-use Rattle.board.proofs.RankTables.{lawful_table}
-use Rattle.board.proofs.Partners.{partner_row}
+use Rattle.board.proofs.AtTables.{held_row}
 use Rattle.board.proofs.tables.Tables.held_rank.Goals as goal
 
 pub rank-requires : goal.rank-requires
-rank-requires c =
-    let t = c.args.self.now in
-    record { have_rows = (c.requires.has_a_row, partner_row (market_at t) (lawful_table t.ranks) (state_at t) t.kept c.args.party c.in_ok-held.held (ap (λ (r : Row). r.holding) (sym c.row.ensures.is_the_row) ∙ c.in_ok-held.was)) }
+rank-requires c = record { have_rows = (c.requires.has_a_row, held_row c.args.self.now c.args.party c.in_ok-held.held c.row.result c.row.ensures.is_the_row c.in_ok-held.was) }

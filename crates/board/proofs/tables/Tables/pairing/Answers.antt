@@ -1,34 +1,15 @@
-use Rattle.std.proofs.Common.{◌≡◌, ◌≤◌, get_or, set, IfSome, sym, refl, ap, ◌∙◌, subst, arith, length-set, below_more}
-use Rattle.std.proofs.lemmas.List.{get_or-replicate, get_or-set_same, get_or-set_other}
+use Rattle.std.proofs.Common.{◌≡◌, ◌≤◌, IfSome, sym, ap, ◌∙◌, subst, arith}
 use Rattle.ranking.specs.Pairings.{LawfulPairing, holding_of}
-use Rattle.board.specs.Calls.{market_at, state_at, lane_byte}
+use Rattle.board.specs.Calls.{market_at, state_at}
 use Rattle.board.specs.declared.rows.Row.{Row}
 use Rattle.board.proofs.RankTables.{lawful_table}
 use Rattle.board.proofs.BoardPairings.{stream_holds_lane, pairing_is, pairing_lawful, pairing_holds}
 use Rattle.board.proofs.tables.Tables.pairing.Goals as goal
 
-pub loop-stream-init : goal.loop-stream-init
-loop-stream-init c = (refl, λ i h. absurd (omega arith), λ i _ h. get_or-replicate 16 i 255 0 h)
-
 pub lane_byte-requires : goal.lane_byte-requires
 lane_byte-requires c =
     let t = c.args.self.now in
     record { is_a_lane = subst (λ o. IfSome o (λ q. t.ranks.streams ≤ q)) (sym (ap (λ (r : Row). r.holding) c.row.ensures.is_the_row)) (stream_holds_lane (market_at t) (lawful_table t.ranks) (state_at t) t.kept c.loop-stream.stream (omega arith)) }
-
-pub loop-stream-preserved : goal.loop-stream-preserved
-loop-stream-preserved c =
-    let t = c.args.self.now in
-    let lanes = c.loop-stream.lanes in
-    let i = c.loop-stream.stream in
-    let inv = c.loop-stream.invariant in
-    let byte = c.lane_byte.result in
-    let is : byte ≡ lane_byte t.ranks.streams ((state_at t).holding i) = c.lane_byte.ensures.is_the_byte ∙ ap (λ (r : Row). lane_byte t.ranks.streams r.holding) c.row.ensures.is_the_row in (
-      length-set lanes i byte ∙ inv.0,
-      below_more (λ k. get_or (set lanes i byte) k 0 ≡ lane_byte t.ranks.streams ((state_at t).holding k)) i
-          (λ k h. get_or-set_other lanes i k byte 0 (omega arith) ∙ inv.1 k h)
-          (get_or-set_same lanes i byte 0 (omega arith) ∙ is),
-      λ k h l. get_or-set_other lanes i k byte 0 (omega arith) ∙ inv.2 k (omega arith) l,
-    )
 
 pub returns : goal.returns
 returns c =
