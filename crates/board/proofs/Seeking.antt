@@ -1,6 +1,6 @@
 -- The search for the best ranked member of an open set, and what it says of who is content.
 use Rattle.std.proofs.Common.{◌≡◌, ℕ, ◌+◌, ◌<◌, ◌≤◌, Bool, true, false, not, ◌&&◌, eqb, ltb, leb, is_some, Some, None, Option, sym, refl, ap, ◌∙◌, subst, ⊎_elim, arith}
-use Rattle.std.proofs.lemmas.Bool.{false_from_ne_true, and_from, and_right, and_left, both_ways, cases_lt, cases_Bool, lt-ltb, eq-eqb, eqb-true}
+use Rattle.std.proofs.lemmas.Bool.{and_parts, cases_eq, ne_eqb, false_from_ne_true, and_from, and_right, and_left, both_ways, cases_lt, cases_Bool, lt-ltb, eq-eqb, eqb-true}
 use Rattle.std.proofs.lemmas.Bool.Decides.{nat_tests}
 use Rattle.ranking.specs.Market.{Market, prefers, LawfulMarket}
 use Rattle.board.specs.Sides.{across}
@@ -29,10 +29,6 @@ unranked : (o : Option ℕ) → prefers o None ≡ false → is_some o ≡ false
 unranked None e = refl
 unranked (Some k) e = e
 
-never_better : (o h : Option ℕ) → is_some o ≡ false → prefers o h ≡ false
-never_better None h e = refl
-never_better (Some k) h e = absurd (both_ways true e refl)
-
 -- of two ranked, different and in strict order, the one that is not beaten is better
 pub strictly_better : (a b : Option ℕ) → is_some a ≡ true → is_some b ≡ true → ((k : ℕ) → a ≡ Some k → b ≡ Some k → ⊥) → prefers b a ≡ false → prefers a b ≡ true
 strictly_better None b e f d n = absurd (both_ways false refl e)
@@ -42,57 +38,16 @@ strictly_better (Some k) (Some l) e f d n = ⊎_elim (λ (h : k < l). lt-ltb k l
     again : l ≤ k → ⊥
     again h = ⊎_elim (λ (i : l < k). both_ways (ltb l k) n (lt-ltb l k i)) (λ (i : k ≤ l). d l (ap Some (let s : k ≡ l = omega arith in s)) refl) (cases_lt l k)
 
--- what was found among the parties below n
+-- what was found among the members that were looked at
 abbrev FoundAt : Market → State → ℕ → Option ℕ → Option ℕ → Type 0
-FoundAt m σ p None lowest = lowest ≡ None
-FoundAt m σ p (Some q) lowest = (σ.opens p q ≡ true) × (m.rank p q ≡ lowest) × (is_some lowest ≡ true)
+FoundAt m σ p None best = best ≡ None
+FoundAt m σ p (Some q) best = (σ.opens p q ≡ true) × (m.rank p q ≡ best) × (is_some best ≡ true)
 
-pub record Found (m : Market) (σ : State) (p n : ℕ) (found lowest : Option ℕ) : Type 0 where
-  pub least : (r : ℕ) → r < n → σ.opens p r ≡ true → prefers (m.rank p r) lowest ≡ false
-  pub is : FoundAt m σ p found lowest
-
-module _ (m : Market) (law : LawfulMarket m) (σ : State) (p : ℕ) where
-  -- who does not face p has no rank with it
-  pub beside : (r : ℕ) → across m p r ≡ false → is_some (m.rank p r) ≡ false
-  beside r e = false_from_ne_true (is_some (m.rank p r)) (λ h. both_ways (across m p r) e (ranked_across m law p r h))
-
-  split : {P : ℕ → Type 0} (n : ℕ) → ((k : ℕ) → k < n → P k) → P n → (k : ℕ) → k < n + 1 → P k
-  split {P} n f g k h = ⊎_elim (λ l. f k l) (λ l. let e : k ≡ n = omega arith in rw e g) (cases_lt k n)
-
-  -- one that is better
-  pub found_better : (n : ℕ) (found lowest rank found' lowest' : Option ℕ) → Found m σ p n found lowest → σ.opens p n ≡ true → rank ≡ m.rank p n → prefers rank lowest ≡ true
-      → found' ≡ Some n → lowest' ≡ rank → Found m σ p (n + 1) found' lowest'
-  found_better n found lowest rank found' lowest' v o e b f l =
-      let b' : prefers (m.rank p n) lowest ≡ true = ap (λ r. prefers r lowest) (sym e) ∙ b in
-      rw (f, l, e) (record {
-        least = split n (λ k l e. not_better_down (m.rank p k) (m.rank p n) lowest b' (v.least k l e)) (λ _. prefers_same (m.rank p n));
-        is = (o, refl, better_ranked (m.rank p n) lowest b');
-      })
-
-  -- one that is not
-  pub found_as_before : (n : ℕ) (found lowest found' lowest' : Option ℕ) → Found m σ p n found lowest → (σ.opens p n ≡ true → prefers (m.rank p n) lowest ≡ false)
-      → found' ≡ found → lowest' ≡ lowest → Found m σ p (n + 1) found' lowest'
-  found_as_before n found lowest found' lowest' v h f l = rw (f, l) (record { least = split n v.least h; is = v.is })
-
-  pub found_best : (first end n : ℕ) (found lowest : Option ℕ) → ((j : ℕ) → across m p j ≡ (leb first j && ltb j end)) → end ≤ n → Found m σ p n found lowest → BestOpen m σ p found
-  found_best first end n None lowest h l v = λ r o. ⊎_elim
-      (λ i. unranked (m.rank p r) (ap (prefers (m.rank p r)) (sym v.is) ∙ v.least r i o))
-      (λ i. beside r (h r ∙ above first end n r l i))
-      (cases_lt r n)
-    where
-      above : (first end n r : ℕ) → end ≤ n → n ≤ r → (leb first r && ltb r end) ≡ false
-      above first end n r l i = grind (arith, nat_tests)
-  found_best first end n (Some q) lowest h l v = (
-    v.is.0,
-    ap is_some v.is.1 ∙ v.is.2,
-    λ r o. ⊎_elim
-        (λ i. ap (prefers (m.rank p r)) v.is.1 ∙ v.least r i o)
-        (λ i. never_better (m.rank p r) (m.rank p q) (beside r (h r ∙ above first end n r l i)))
-        (cases_lt r n),
-  )
-    where
-      above : (first end n r : ℕ) → end ≤ n → n ≤ r → (leb first r && ltb r end) ≡ false
-      above first end n r l i = grind (arith, nat_tests)
+-- of p's open set these are left; none of the others is better than what was found
+pub record Found (m : Market) (σ : State) (p : ℕ) (left : ℕ → Bool) (found best : Option ℕ) : Type 0 where
+  pub within : (r : ℕ) → left r ≡ true → σ.opens p r ≡ true
+  pub least : (r : ℕ) → σ.opens p r ≡ true → left r ≡ false → prefers (m.rank p r) best ≡ false
+  pub is : FoundAt m σ p found best
 
 module _ (m : Market) (law : LawfulMarket m) (σ : State) (kept : Kept m σ) (p : ℕ) where
   -- where p holds the best of its open set, it is content; otherwise the best is sought

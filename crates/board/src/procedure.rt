@@ -29,22 +29,6 @@ fn lane_byte(held: Option<u8>, streams: u8) -> u8
     held.map_or(NOBODY, |lane| lane - streams)
 }
 
-impl RankTable {
-    // The numbers of the parties on the other side: the first, and the one past the last.
-    // They are no `Range`, since in the proof of a loop over a `Range` that a call answered there is no counter.
-    fn other_parties(&self, party: u8) -> (u8, u8)
-        requires is_a_party { party < party_count (market_in self.now) }
-        ensures are_few { (result.0 ≤ result.1) × (result.1 ≤ 32) }
-        ensures are_the_other_side { (j : ℕ) → across (market_in self.now) party j ≡ (nat_le result.0 j && nat_lt j result.1) }
-    {
-        if party < self.streams {
-            (self.streams, self.streams + self.lanes)
-        } else {
-            (0, self.streams)
-        }
-    }
-}
-
 /// What an offer of p to q came to.
 #[derive(Clone, Copy)]
 pub(crate) enum Offered {
@@ -90,14 +74,12 @@ impl Tables {
         requires is_a_party { party < party_count (market_at self.now) }
         ensures is_the_best { BestOpen (market_at self.now) (state_at self.now) party result }
     {
-        let open = self.rows.row(party).open_set;
-        let (first, end) = self.ranks.other_parties(party);
-        // a loop, which is shorter than a chain over pairs of a rank and a party
+        let mut open = self.rows.row(party).open_set;
         let mut found = None;
         let mut best_rank = None;
-        for other in first..end {
+        while let Some(other) = open.pop_first() {
             let rank = self.ranks.rank(party, other);
-            if is_better(rank, best_rank) && open.contains(other) {
+            if is_better(rank, best_rank) {
                 best_rank = rank;
                 found = Some(other);
             }
