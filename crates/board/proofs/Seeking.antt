@@ -1,17 +1,15 @@
 -- The search for the best ranked member of an open set, and what it says of who is content.
-use Rattle.std.proofs.Common.{◌≡◌, ℕ, ◌+◌, ◌<◌, ◌≤◌, Bool, true, false, not, ◌&&◌, eqb, ltb, leb, is_some, Some, None, Option, sym, refl, ap, ◌∙◌, subst, ⊎_elim, arith}
-use Rattle.std.proofs.lemmas.Bool.{and_parts, cases_eq, ne_eqb, false_from_ne_true, and_from, and_right, and_left, both_ways, cases_lt, cases_Bool, lt-ltb, eq-eqb, eqb-true}
+use Rattle.std.proofs.Common.{◌≡◌, ℕ, ◌<◌, ◌≤◌, Bool, true, false, not, eqb, ltb, is_some, Some, None, Option, sym, refl, ap, ◌∙◌, subst, ⊎_elim, arith}
+use Rattle.std.proofs.lemmas.Bool.{and_from, and_right, and_left, both_ways, cases_lt, cases_Bool, lt-ltb, eq-eqb, eqb-true}
 use Rattle.std.proofs.lemmas.Bool.Decides.{nat_tests}
 use Rattle.ranking.specs.Market.{Market, prefers, LawfulMarket}
-use Rattle.board.specs.Sides.{across}
 use Rattle.ranking.specs.Stability.{is_party, rank_of, wants}
-use Rattle.ranking.proofs.Blocking.{prefers_same}
 use Rattle.board.specs.State.{State, Content, Best}
 use Rattle.board.specs.Kept.{Kept}
 use Rattle.board.specs.Calls.{BestOpen, Sought}
 use Rattle.std.specs.Option.{option_eq}
 use Rattle.std.specs.Bool.{then_some}
-use Rattle.board.proofs.Keeping.{held_facts, ranked_across}
+use Rattle.board.proofs.Keeping.{held_facts}
 
 -- Ranks in order.
 better_ranked : (a b : Option ℕ) → prefers a b ≡ true → is_some a ≡ true

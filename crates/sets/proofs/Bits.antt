@@ -1,9 +1,11 @@
 -- The members of a set after one more bit, or one bit less.
-use Rattle.std.proofs.Common.{◌≡◌, ℕ, min, ◌-◌, ◌*◌, ◌%◌, ◌^◌, ◌<◌, ◌≤◌, Bool, true, false, not, ◌&&◌, ◌||◌, eqb, sym, refl, ap, ◌∙◌, ⊎_elim, arith}
+use Rattle.std.proofs.Common.{◌≡◌, ℕ, suc, min, ◌+◌, ◌/◌, ◌-◌, ◌*◌, ◌%◌, ◌^◌, ◌<◌, ◌≤◌, Bool, true, false, not, ◌&&◌, ◌||◌, eqb, sym, refl, ap, ◌∙◌, ⊎_elim, arith}
 use lib.Bits.{bit_and, bit_or, and_le_l}
+use Rattle.std.proofs.Math.Nat.{pow-suc}
+use Rattle.std.proofs.lemmas.Nat.{shr-shr, pow_pos}
 use mir.Syntax.{w32}
 use Rattle.std.specs.Int.{bit_at, bit_not, trailing_zeros}
-use Rattle.std.proofs.lemmas.Nat.Bits.{bit_at-trailing_zeros, bit_at_set_same, bit_at_set_other, bit_at_clear_same, bit_at_clear_other, bit_at_above, bit_at-zero, bit_at_and, bit_at_not, bit_at-lt, same_from_bits_below}
+use Rattle.std.proofs.lemmas.Nat.Bits.{bit_at-trailing_zeros, bit_at_set_same, bit_at_set_other, bit_at_clear_same, bit_at_clear_other, bit_at_above, bit_at-zero, bit_at_and, bit_at_not, bit_at-lt, same_from_bits_below, same_from_bits, bit_at-pow_same, bit_at-pow_other, bit_at_cat_low, bit_at_cat_high, bit_at_ones_above}
 use Rattle.std.proofs.lemmas.Bool.{both_ways, cases_eq, cases_lt, ne_eqb, eq-eqb}
 use Rattle.std.proofs.lemmas.Bool.Decides.{nat_tests}
 use Rattle.sets.specs.Sets.{has}
@@ -75,3 +77,51 @@ module _ (a b : ℕ) (f : a < 2 ^ 32) (g : b < 2 ^ 32) where
 pub lowest : (m : ℕ) → 0 < m → m < 2 ^ 32 → (trailing_zeros w32 m < 32) × (has m (trailing_zeros w32 m) ≡ true) × ((j : ℕ) → j < trailing_zeros w32 m → has m j ≡ false)
 unfolding has
 lowest m p f = let l = bit_at-trailing_zeros w32 m p f in (l.0, ap (λ v. eqb v 1) l.1, λ j h. ap (λ v. eqb v 1) (l.2 j h))
+
+-- a number and the one below it: the bits above the lowest 1 are the same, and under it are zeros in the first
+module _ (m k : ℕ) (one : bit_at m k ≡ 1) (zeros : (i : ℕ) → i < k → bit_at m i ≡ 0) where
+  twice : 2 ^ (k + 1) ≡ 2 ^ k * 2
+  twice = let e : k + 1 ≡ suc k = omega arith in ap (λ n. 2 ^ n) e ∙ pow-suc 2 k
+
+  parts : m ≡ m / 2 ^ (k + 1) * 2 ^ (k + 1) + 2 ^ k
+  parts = same_from_bits m (m / 2 ^ (k + 1) * 2 ^ (k + 1) + 2 ^ k) go
+    where
+      go : (i : ℕ) → bit_at m i ≡ bit_at (m / 2 ^ (k + 1) * 2 ^ (k + 1) + 2 ^ k) i
+      go i = ⊎_elim
+          (λ l. ⊎_elim
+          (λ e. ap (bit_at m) e ∙ one ∙ sym (bit_at-pow_same k) ∙ ap (bit_at (2 ^ k)) (sym e))
+          (λ d. zeros i (omega arith) ∙ sym (bit_at-pow_other k i d))
+          (cases_eq i k)
+          ∙ sym (bit_at_cat_low (m / 2 ^ (k + 1)) (k + 1) (2 ^ k) i l))
+          (λ l.
+          let e : i ≡ k + 1 + (i - (k + 1)) = omega arith in
+          ap (bit_at m) e
+          ∙ ap (λ x. x % 2) (sym (shr-shr m (k + 1) (i - (k + 1))))
+          ∙ sym (bit_at_cat_high (m / 2 ^ (k + 1)) (k + 1) (2 ^ k) i (omega (arith, twice, pow_pos k)) l))
+          (cases_lt i (k + 1))
+
+  below : m - 1 ≡ m / 2 ^ (k + 1) * 2 ^ (k + 1) + (2 ^ k - 1)
+  below = omega (arith, parts, pow_pos k)
+
+  pub rest_below : (j : ℕ) → j < k → bit_at (bit_and m (m - 1)) j ≡ 0
+  rest_below j l = bit_at_and m (m - 1) j ∙ ap (λ x. min x (bit_at (m - 1) j)) (zeros j l) ∙ omega arith
+
+  pub rest_same : bit_at (bit_and m (m - 1)) k ≡ 0
+  rest_same = bit_at_and m (m - 1) k ∙ ap (min (bit_at m k)) (ap (λ x. bit_at x k) below ∙ bit_at_cat_low (m / 2 ^ (k + 1)) (k + 1) (2 ^ k - 1) k (omega arith) ∙ bit_at_ones_above k k (omega arith)) ∙ omega arith
+
+  pub rest_above : (j : ℕ) → k < j → bit_at (bit_and m (m - 1)) j ≡ bit_at m j
+  rest_above j l =
+      let high : bit_at m j ≡ bit_at (m / 2 ^ (k + 1)) (j - (k + 1)) = ap (λ x. bit_at x j) parts ∙ bit_at_cat_high (m / 2 ^ (k + 1)) (k + 1) (2 ^ k) j (omega (arith, twice, pow_pos k)) (omega arith) in
+      let pred : bit_at (m - 1) j ≡ bit_at (m / 2 ^ (k + 1)) (j - (k + 1)) = ap (λ x. bit_at x j) below ∙ bit_at_cat_high (m / 2 ^ (k + 1)) (k + 1) (2 ^ k - 1) j (omega (arith, twice, pow_pos k)) (omega arith) in
+      bit_at_and m (m - 1) j ∙ ap (min (bit_at m j)) (pred ∙ sym high) ∙ omega arith
+
+-- without its lowest member
+pub has_rest : (m j : ℕ) → 0 < m → m < 2 ^ 32 → has (bit_and m (m - 1)) j ≡ (not (eqb j (trailing_zeros w32 m)) && has m j)
+unfolding has
+has_rest m j p f =
+    let l = bit_at-trailing_zeros w32 m p f in
+    let k = trailing_zeros w32 m in
+    ⊎_elim
+    (λ e. ap (λ x. eqb (bit_at (bit_and m (m - 1)) x) 1) e ∙ ap (λ v. eqb v 1) (rest_same m k l.1 l.2) ∙ sym (ap (λ b. not b && eqb (bit_at m j) 1) (eq-eqb j k e)))
+    (λ d. ap (λ v. eqb v 1) (⊎_elim (λ h. rest_below m k l.1 l.2 j h ∙ sym (l.2 j h)) (λ h. rest_above m k l.1 l.2 j (omega arith)) (cases_lt j k)) ∙ sym (ap (λ b. not b && eqb (bit_at m j) 1) (ne_eqb j k d)))
+    (cases_eq j k)

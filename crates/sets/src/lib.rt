@@ -1,7 +1,7 @@
 //! Sets of parties: a set of the numbers 0 to 31 as a bit mask. Nothing outside this crate speaks of bits.
 #![tactic(auto)]
 
-ghost use Rattle.std.specs.Prelude.{◌≡◌, ℕ, ◌<◌, ◌≤◌, Bool, true, false, not, ◌&&◌, ◌||◌, Decides, IfSome, MatchOption, ◌==◌, nat_le, nat_lt};
+ghost use Rattle.std.specs.Prelude.{◌≡◌, ℕ, ◌-◌, ◌<◌, Bool, true, false, not, ◌&&◌, ◌||◌, Decides, IfSome, MatchOption, ◌==◌, nat_le, nat_lt};
 ghost use Rattle.sets.specs.Sets.{has};
 
 /// A set of numbers, 0 to 31: of parties, or of the parties of one side by their numbers within it.
@@ -44,10 +44,9 @@ impl Members {
         }
     }
 
-    /// Takes `k` away, if it is a member; the mask grows no larger.
+    /// Takes `k` away, if it is a member.
     pub fn remove(&mut self, k: u8)
         ensures takes_one_away { (j : ℕ) → has self.new.0 j ≡ (not (j == k) && has self.old.0 j) }
-        ensures leaves_no_larger_mask { self.new.0 ≤ self.old.0 }
     {
         let mask = self.0;
         if k < 32 {
@@ -61,12 +60,12 @@ impl Members {
         ensures takes_it_away { MatchOption result (self.new ≡ self.old) (λ k. (j : ℕ) → has self.new.0 j ≡ (not (j == k) && has self.old.0 j)) }
         ensures leaves_a_smaller_mask { IfSome result (λ _. self.new.0 < self.old.0) }
     {
-        if self.0 == 0 {
+        let mask = self.0;
+        if mask == 0 {
             return None;
         }
-        let first = self.0.trailing_zeros() as u8;
-        self.remove(first);
-        Some(first)
+        self.0 = mask & (mask - 1);
+        Some(mask.trailing_zeros() as u8)
     }
 
     /// Whether every member of this set is a member of the other.
