@@ -9,6 +9,7 @@ pub const MOST_STREAMS: usize = 16;
 #[derive(Clone, Copy)]
 pub struct Judged {
     pub(crate) streams: u8,
+    // with the count beside it: nothing is allocated
     pub(crate) lanes: [u8; MOST_STREAMS],
     pub(crate) finding: Finding,
     ghost few: { streams ≤ 16 },

@@ -13,6 +13,7 @@ use record::refusal::Refusal;
 use sets::Members;
 
 /// What a call answers that could not play: the record or the start is refused, or the trace is too short.
+// A number, as the caller in C and Rust takes one; so a refusal is turned into it wherever a call answers.
 const REFUSED: u32 = 0xffff_ffff;
 
 /// The words of a trace for one board: three of the answer, four for each party, the standstill, and the pairing.

@@ -57,6 +57,8 @@ impl<R: Ranking> Board<R> {
         &self.ranking
     }
 
+    // The three questions of one party have one shape: one function that takes what to ask of the row would be as long as one of them,
+    // and each would still state its own answer.
     /// Whom a party holds. Refuses 6 where it is not below s + g, as all questions of one party do.
     pub fn holding(&self, party: u8) -> Result<Option<u8>, Refusal>
         ensures refused_as_told { refused_by result ≡ party_fault (market_of (R.meaning self.now.ranking)) party }

@@ -122,6 +122,7 @@ impl Tables {
         self.rows.row(held).bidders.contains(y).then_some(held)
     }
 
+    // Here and below `ranks_unchanged` says that the market stays: rows lent apart from the ranks would have to be proved kept again.
     // An offer of p to q, whom p seeks best, while somebody is waiting or nobody.
     fn make_offer(&mut self, waiting: Option<u8>, p: u8, q: u8) -> Offered
         requires goes_to_the_best { Best (market_at self.old) (state_at self.old) p q }

@@ -46,6 +46,8 @@ impl Rows {
         Rows { rows }
     }
 
+    // That a number is below 32 is asked here and where rows are changed: sets, rows and callers hold bare numbers, and a type for
+    // them would be unwrapped at each.
     /// A party's row.
     pub(crate) fn row(&self, party: u8) -> Row
         requires has_a_row { party < 32 }

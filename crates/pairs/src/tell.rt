@@ -13,6 +13,7 @@ use record::bytes::{MOST_WORDS, words_of};
 use record::refusal::Refusal;
 
 /// How long the text is, and whether the input is a record whose pairing is stable.
+// Both are said of every input, so an enum of two cases would have the length in each.
 #[derive(Clone, Copy)]
 pub struct Ended {
     pub length: usize,

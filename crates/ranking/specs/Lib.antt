@@ -5,3 +5,4 @@ pub mod Pairings
 pub mod Places
 pub mod Scorings
 pub mod Stability
+pub mod TableLaws

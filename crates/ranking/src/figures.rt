@@ -26,6 +26,7 @@ pub struct PartyFigures {
     pub reach: u16,
 }
 
+// Two types, so that streams and lanes are not taken for each other; each names its own figure, and so has its own conversion.
 impl From<StreamFigures> for PartyFigures {
     ghost from_gives = { λ x y. y ≡ stream_figured x };
 

@@ -77,6 +77,7 @@ impl<R: Ranking> CheckedPairing<'_, R> {
         'search: for (index, &has) in self.pairing.iter().enumerate() {
             let stream = index as u8;
             let held = self.ranking.rank_by_stream(stream, has);
+            // By the number, by which the ranking is asked.
             for lane in 0..lanes {
                 let lane_has = self.lane_streams[lane as usize];
                 if want_each_other(self.ranking, stream, lane, held, lane_has) {

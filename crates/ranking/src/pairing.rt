@@ -7,10 +7,10 @@ ghost use Rattle.ranking.specs.Pairings.{pairing_fault, TableOf};
 use crate::interface::Ranking;
 use record::refusal::Refusal;
 
-/// The byte that stands for nobody.
+/// The byte that stands for nobody in a pairing, whose form the project gives.
 pub const NOBODY: u8 = 255;
 
-/// The place of a refusal of the list's length.
+/// The place of a refusal of the list's length, by the project's table of refusals.
 const WHOLE_LIST: u8 = 255;
 
 /// The most lanes.

@@ -12,6 +12,7 @@ pub const MOST_FIGURE: u16 = 1023;
 // The figures of one side, 1 to 16 parties.
 #[derive(Clone, Copy)]
 struct Side {
+    // beside the figures, as nothing is allocated
     count: u8,
     figures: [PartyFigures; 16],
     ghost few: { (1 ≤ count) × (count ≤ 16) },

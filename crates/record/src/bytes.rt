@@ -37,6 +37,7 @@ pub fn words_of(bytes: &[u8], words: &mut [u32]) -> Result<usize, Refusal>
     if words.len() < count {
         return Err(Refusal::Room(count as u16));
     }
+    // By the number of the word: of a `zip` with `chunks_exact` the proof does not learn what was written.
     for (k, word) in words[..count].iter_mut().enumerate() {
         *word = word_at(bytes, k);
     }

@@ -48,6 +48,7 @@ pub(crate) fn read_part<S: Scan + Drop>(
     let last = words.len() - 1;
     let kind = scan.kind();
     let mut scan = scan;
+    // By the place, which each refusal tells and the answer is.
     for at in from..last {
         let word = words[at];
         if Kind::of(word) != Some(kind) {

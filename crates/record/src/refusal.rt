@@ -32,6 +32,7 @@ pub enum Refusal {
 }
 
 impl Refusal {
+    // Number and place are the project's own table, so each has a `match`; a derive could give the first only.
     /// The refusal's number, 1 to 12.
     pub fn number(&self) -> u8
         ensures is_the_number { result ≡ (code_of self.now).0 }
