@@ -100,13 +100,9 @@ fn play_from<R: Ranking + Drop>(ranking: R, start: &[u32], turns: &[u8], trace: 
     if start.is_empty() {
         return play(Board::new(ranking), turns, trace);
     }
-    let Some(rows) = rows_of(start) else {
-        return REFUSED;
-    };
-    match Board::resume(ranking, rows) {
-        Some(board) => play(board, turns, trace),
-        None => REFUSED,
-    }
+    rows_of(start)
+        .and_then(|rows| Board::resume(ranking, rows))
+        .map_or(REFUSED, |board| play(board, turns, trace))
 }
 
 /// Plays turns on a board over the ranking of a record, and writes a trace.
@@ -118,9 +114,20 @@ pub extern "C" fn play_listing(
     trace: &mut [u32],
 ) -> u32 {
     let mut listing = Listing::new();
-    match listing.fill(words) {
-        Ok(_) => play_from(listing, start, turns, trace),
-        Err(_) => REFUSED,
+    if listing.fill(words).is_err() {
+        return REFUSED;
+    }
+    play_from(listing, start, turns, trace)
+}
+
+// Writes a record of each three figures, as many as both lists have.
+fn read_figures<F: Drop, M: Fn(u16, u16, u16) -> F>(figures: &[u16], make: M, records: &mut [F])
+    requires may_be_called { M.IsAlwaysCallable make }
+{
+    for (place, three) in records.iter_mut().zip(figures.chunks_exact(3)) {
+        if let &[own, wish, reach] = three {
+            *place = make(own, wish, reach);
+        }
     }
 }
 
@@ -133,19 +140,17 @@ fn scoring_of(figures: &[u16], streams: u8) -> Option<Scoring> {
     }
     let (first, others) = figures.split_at(3 * split);
     let mut of_streams = [StreamFigures::default(); 16];
-    for (stream, figures) in of_streams.iter_mut().zip(first.chunks_exact(3)) {
-        let &[rate, wish, reach] = figures else {
-            return None;
-        };
-        *stream = StreamFigures { rate, wish, reach };
-    }
+    read_figures(
+        first,
+        |rate, wish, reach| StreamFigures { rate, wish, reach },
+        &mut of_streams,
+    );
     let mut of_lanes = [LaneFigures::default(); 16];
-    for (lane, figures) in of_lanes.iter_mut().zip(others.chunks_exact(3)) {
-        let &[wear, wish, reach] = figures else {
-            return None;
-        };
-        *lane = LaneFigures { wear, wish, reach };
-    }
+    read_figures(
+        others,
+        |wear, wish, reach| LaneFigures { wear, wish, reach },
+        &mut of_lanes,
+    );
     let mut scoring = Scoring::new();
     scoring
         .fill(&of_streams[..split], &of_lanes[..parties - split])
@@ -162,10 +167,7 @@ pub extern "C" fn play_scoring(
     turns: &[u8],
     trace: &mut [u32],
 ) -> u32 {
-    match scoring_of(figures, streams) {
-        Some(scoring) => play_from(scoring, start, turns, trace),
-        None => REFUSED,
-    }
+    scoring_of(figures, streams).map_or(REFUSED, |scoring| play_from(scoring, start, turns, trace))
 }
 
 // Gives turns in rotation until all parties were idle in a row, and answers the number of turns.
