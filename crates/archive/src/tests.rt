@@ -59,12 +59,10 @@ fn listing_answers_by_its_places(rt: HostRuntime) -> Result<(), Fail> {
     let mut listing = Listing::new();
     assert!(rt; listing.streams() == 1 && listing.rank_by_stream(0, 0) == None);
     listing.fill(&SQUARE)?;
-    for i in 0..3u8 {
-        for j in 0..3u8 {
-            assert!(rt;
-                listing.rank_by_stream(i, j).unwrap_or(9) == BY_STREAM[i as usize][j as usize]
-            );
-            assert!(rt; listing.rank_by_lane(i, j).unwrap_or(9) == BY_LANE[i as usize][j as usize]);
+    for (i, (by_stream, by_lane)) in (0..3u8).zip(BY_STREAM.iter().zip(BY_LANE)) {
+        for (j, (lane_rank, stream_rank)) in (0..3u8).zip(by_stream.iter().zip(by_lane)) {
+            assert!(rt; listing.rank_by_stream(i, j).unwrap_or(9) == *lane_rank);
+            assert!(rt; listing.rank_by_lane(i, j).unwrap_or(9) == stream_rank);
         }
     }
     assert!(rt; listing.rank_by_lane(255, 255) == None);

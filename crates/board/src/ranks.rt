@@ -27,8 +27,8 @@ fn ranks_of<R: Ranking>(ranking: &R) -> [[Option<u16>; MOST_PARTIES]; MOST_PARTI
 {
     array::from_fn(
         |party| -> [Option<u16>; MOST_PARTIES]
-            requires { party < 32 }
-            ensures { result ≡ ranks_by (market_of (R.meaning ranking.entry.now)) party }
+            requires has_a_row { party < 32 }
+            ensures are_its_ranks { result ≡ ranks_by (market_of (R.meaning ranking.entry.now)) party }
         { ranks_by(ranking, party as u8) },
     )
 }

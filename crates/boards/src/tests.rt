@@ -32,9 +32,10 @@ fn one_offer_each<R: Ranking>(rt: &impl Abort, board: &mut Board<R>, parties: &[
 // The lanes that the first three streams hold, and whether the board is at a standstill.
 fn ends_with<R: Ranking>(rt: &impl Abort, board: &Board<R>, lanes: [u8; 3], still: bool) {
     let got = board.pairing();
-    for k in 0..3usize {
-        assert_eq!(rt; got[k], lanes[k], "the lane of stream {k}");
-    }
+    assert!(rt;
+        &got[..3] == lanes.as_slice(),
+        "the lanes of the streams are {got:?}"
+    );
     assert_eq!(rt; board.is_standstill(), still);
 }
 

@@ -447,15 +447,11 @@ fn turns_are_counted(rt: HostRuntime) {
 fn longest() -> [u32; 8192] {
     let mut words = [0x3000001F; 8192];
     words[0] = 0x10001010;
-    for owner in 0..32 {
-        for place in 0..16 {
-            words[1 + 16 * owner + place] = 0x20000000
-                + 0x10000 * owner as u32
-                + 0x101 * place as u32;
-        }
+    for (k, word) in words[1..513].iter_mut().enumerate() {
+        *word = 0x20000000 + 0x10000 * (k / 16) as u32 + 0x101 * (k % 16) as u32;
     }
-    for stream in 0..16 {
-        words[8113 + stream] = 0x40000000 + 0x101 * stream as u32;
+    for (stream, word) in words[8113..8129].iter_mut().enumerate() {
+        *word = 0x40000000 + 0x101 * stream as u32;
     }
     words[8129] = 0x50000000 + 8129;
     words
