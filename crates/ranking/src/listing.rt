@@ -78,11 +78,9 @@ impl Listing {
         if self.table.is_some() {
             return Err(Refusal::Filled);
         }
+        let sizes = parts.sizes;
         let places = places_of(parts.choices.words);
-        self.table = Some(PlaceTable {
-            sizes: parts.sizes,
-            places,
-        });
+        self.table = Some(PlaceTable { sizes, places });
         Ok(parts)
     }
 }
