@@ -53,6 +53,7 @@ impl<R: Ranking> Board<R> {
     /// The ranking that the board was made with.
     pub fn ranking(&self) -> &R
         ensures is_its_ranking { result.now ≡ self.now.ranking }
+        ensures keeps_what_every_board_keeps { Kept (market_of (R.meaning self.now.ranking)) (state_in self.now.rows) }
     {
         &self.ranking
     }
@@ -63,6 +64,7 @@ impl<R: Ranking> Board<R> {
     pub fn holding(&self, party: u8) -> Result<Option<u8>, Refusal>
         ensures refused_as_told { refused_by result ≡ party_fault (market_of (R.meaning self.now.ranking)) party }
         ensures is_the_holding { IfOk result (λ h. h ≡ (state_in self.now.rows).holding party) }
+        ensures keeps_what_every_board_keeps { Kept (market_of (R.meaning self.now.ranking)) (state_in self.now.rows) }
     {
         self.tables.ranks.check_party(party)?;
         Ok(self.tables.rows.row(party).holding)
@@ -72,6 +74,7 @@ impl<R: Ranking> Board<R> {
     pub fn open_set(&self, party: u8) -> Result<Members, Refusal>
         ensures refused_as_told { refused_by result ≡ party_fault (market_of (R.meaning self.now.ranking)) party }
         ensures is_the_open_set { IfOk result (λ o. (j : ℕ) → has o.0 j ≡ (state_in self.now.rows).opens party j) }
+        ensures keeps_what_every_board_keeps { Kept (market_of (R.meaning self.now.ranking)) (state_in self.now.rows) }
     {
         self.tables.ranks.check_party(party)?;
         Ok(self.tables.rows.row(party).open_set)
@@ -81,6 +84,7 @@ impl<R: Ranking> Board<R> {
     pub fn bidders(&self, party: u8) -> Result<Members, Refusal>
         ensures refused_as_told { refused_by result ≡ party_fault (market_of (R.meaning self.now.ranking)) party }
         ensures is_the_set_of_bidders { IfOk result (λ b. (j : ℕ) → has b.0 j ≡ (state_in self.now.rows).bidder party j) }
+        ensures keeps_what_every_board_keeps { Kept (market_of (R.meaning self.now.ranking)) (state_in self.now.rows) }
     {
         self.tables.ranks.check_party(party)?;
         Ok(self.tables.rows.row(party).bidders)
@@ -90,6 +94,7 @@ impl<R: Ranking> Board<R> {
     pub fn is_content(&self, party: u8) -> Result<bool, Refusal>
         ensures refused_as_told { refused_by result ≡ party_fault (market_of (R.meaning self.now.ranking)) party }
         ensures says_whether { IfOk result (λ b. Decides b (Content (market_of (R.meaning self.now.ranking)) (state_in self.now.rows) party)) }
+        ensures keeps_what_every_board_keeps { Kept (market_of (R.meaning self.now.ranking)) (state_in self.now.rows) }
     {
         self.tables.ranks.check_party(party)?;
         Ok(self.tables.is_content(party))
@@ -99,6 +104,7 @@ impl<R: Ranking> Board<R> {
     pub fn is_standstill(&self) -> bool
         ensures says_whether { Decides result (Standstill (market_of (R.meaning self.now.ranking)) (state_in self.now.rows)) }
         ensures standstill_is_stable { let m = market_of (R.meaning self.now.ranking) in (result ≡ true → Stable m (holding_of m (pairing_at m (state_in self.now.rows)))) }
+        ensures keeps_what_every_board_keeps { Kept (market_of (R.meaning self.now.ranking)) (state_in self.now.rows) }
     {
         self.tables.is_standstill()
     }

@@ -65,7 +65,7 @@ module _ (places : List (List (Option ℕ))) (whole : WholeTable places) (o y v 
         grind arith,
   )
 
-  pub entered_small : v ≤ 65535 → SmallPlaces places → SmallPlaces (entered places o y v)
+  pub entered_small : v < 255 → SmallPlaces places → SmallPlaces (entered places o y v)
   entered_small small known p q k e = let at = entered_at p q in let were = known p q k in grind (arith, nat_tests)
 
 -- a party that is not among those named has no place

@@ -1,6 +1,6 @@
 -- A table of places: for each of 32 parties a row of 16, one for each party that it may rank, the place that it gives
 -- that party, or none.
-use Rattle.std.specs.Prelude.{◌≡◌, ℕ, ◌<◌, ◌≤◌, false, List, [], length, Some, None, Option, slice_index_or}
+use Rattle.std.specs.Prelude.{◌≡◌, ℕ, ◌<◌, false, List, [], length, Some, None, Option, slice_index_or}
 use Rattle.record.specs.Lists.{among, place_in}
 use Rattle.record.specs.Faults.{kind, high, middle, low, ranked_by}
 use Rattle.ranking.specs.Market.{Strict}
@@ -17,9 +17,9 @@ place_at places p q = slice_index_or (row_of places p) q None
 abbrev pub DistinctPlaces : List (List (Option ℕ)) → Type 0
 DistinctPlaces places = Strict (place_at places)
 
--- no place is over 65,535
+-- every place is below 255
 abbrev pub SmallPlaces : List (List (Option ℕ)) → Type 0
-SmallPlaces places = (p q k : ℕ) → place_at places p q ≡ Some k → k ≤ 65535
+SmallPlaces places = (p q k : ℕ) → place_at places p q ≡ Some k → k < 255
 
 -- a choice that may be entered after those before it: its owner has a row, its ranked party a number in it, which the
 -- owner has not named yet, and its place is the number of the owner's choices so far

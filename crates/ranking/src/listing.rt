@@ -88,14 +88,15 @@ impl Listing {
 impl Ranking for Listing {
     ghost use Rattle.std.proofs.Common.{rules};
     ghost use Rattle.ranking.specs.Listings.{listed};
+    ghost use Rattle.ranking.specs.TableLaws.{filled_strict, filled_bounded};
 
     ghost meaning = { listed };
 
     ghost sized = { Prim.search rules };
 
-    ghost bounded = { Prim.search rules };
+    ghost bounded = { λ x. filled_bounded x.table };
 
-    ghost strict = { Prim.search rules };
+    ghost strict = { λ x. filled_strict x.table };
 
     fn streams(&self) -> u8 {
         self.table.as_ref().map_or(1, |table| table.sizes.streams)

@@ -11,10 +11,18 @@ use Rattle.board.proofs.board.Board.is_standstill.Goals as goal
 abbrev Says : Bool → Market → State → Type 0
 Says whether m σ = Decides whether (Standstill m σ) × (whether ≡ true → Stable m (holding_of m (pairing_at m σ)))
 
-pub returns : goal.returns
-returns g c =
+pub returns-clause-says_whether : goal.returns-clause-says_whether
+returns-clause-says_whether g c =
     let whether = c.is_standstill.result in
     let answer = c.is_standstill.ensures in
     let says = subst (λ v. Says whether (market_of (g.R.Ranking.meaning v.ranking)) (state_in v.rows)) c.self.view_is
     (subst (λ (m : Market). Says whether m (state_at c.self.inside.tables)) c.self.invariant (answer.says_whether, answer.standstill_is_stable)) in
-    record { says_whether = says.0; standstill_is_stable = says.1 }
+    says.0
+
+pub returns-clause-standstill_is_stable : goal.returns-clause-standstill_is_stable
+returns-clause-standstill_is_stable g c =
+    let whether = c.is_standstill.result in
+    let answer = c.is_standstill.ensures in
+    let says = subst (λ v. Says whether (market_of (g.R.Ranking.meaning v.ranking)) (state_in v.rows)) c.self.view_is
+    (subst (λ (m : Market). Says whether m (state_at c.self.inside.tables)) c.self.invariant (answer.says_whether, answer.standstill_is_stable)) in
+    says.1
