@@ -6,11 +6,12 @@ ghost use Rattle.record.specs.Faults.{middle, pair_of, record_fault};
 ghost use Rattle.archive.specs.Pairs.{lane_of};
 ghost use Rattle.archive.specs.Judging.{JudgedOf};
 
-use crate::judged::{Judged, MOST_STREAMS};
+use crate::judged::Judged;
 use ranking::finder::{Finding, find};
 use ranking::listing::Listing;
 use ranking::pairing::NOBODY;
 use record::refusal::Refusal;
+use record::sizes::MOST_STREAMS;
 use record::word::{low_byte, middle_byte};
 
 // The lane of each stream by a record's pair words, 255 for nobody.

@@ -1,9 +1,7 @@
 ghost use Rattle.std.specs.Prelude.{◌≤◌};
 
 use ranking::finder::Finding;
-
-/// The most streams.
-pub const MOST_STREAMS: usize = 16;
+use record::sizes::MOST_STREAMS;
 
 /// What is found of a record's own pairing: the lane of each stream, 255 for nobody, and what the finder answers.
 #[derive(Clone, Copy)]

@@ -8,7 +8,7 @@ use record::refusal::Refusal;
 
 /// A text that is being written into a caller's bytes, and the place where it goes on.
 // Each method says that it keeps the list that was lent, since a struct that holds a `&mut` does not say so by its type.
-// `fmt` and `write!` would need no cursor, but by std's contract they may answer an `Err` where there is room.
+// `fmt` and `write!` would need no cursor: tried, and it stayed open that they answer no `Err` where there is room.
 #[derive(Drop)]
 pub(crate) struct Cursor<'a> {
     pub(crate) bytes: &'a mut [u8],

@@ -27,12 +27,8 @@ fn rows_of(start: &[u32]) -> Option<Rows> {
     if start.len() != START {
         return None;
     }
-    let nobody = Row {
-        holding: None,
-        open_set: Members::none(),
-        bidders: Members::none(),
-    };
-    let mut rows = [nobody; MOST_PARTIES];
+    let mut rows = [Row::default(); MOST_PARTIES];
+    // the three lists of the caller's words by the party's number
     for (party, row) in rows.iter_mut().enumerate() {
         let held = u8::try_from(start[party]).ok()?;
         *row = Row {
@@ -54,7 +50,7 @@ fn party_words<R: Ranking>(board: &Board<R>, party: u8) -> Result<[u32; 4], Refu
     ])
 }
 
-// The three words of an answer.
+// The three words of an answer, numbers for a caller in C.
 fn answer_words(answer: Result<Turned, Refusal>) -> [u32; 3] {
     match answer {
         Ok(Turned::Idle) => [0, 0, 0],
@@ -71,6 +67,7 @@ fn put_block<R: Ranking>(board: &Board<R>, answer: [u32; 3], block: &mut [u32]) 
     block[..3].copy_from_slice(&answer);
     for (party, words) in (0..32u8).zip(block[3..131].chunks_exact_mut(4)) {
         let told = party_words(board, party).unwrap_or([REFUSED; 4]);
+        // not `copy_from_slice`: that a part has four words is not known of `chunks_exact_mut`
         for (word, part) in words.iter_mut().zip(told) {
             *word = part;
         }
@@ -138,6 +135,7 @@ fn scoring_of(figures: &[u16], streams: u8) -> Option<Scoring> {
     if figures.len() % 3 != 0 || parties < split || split > 16 || parties - split > 16 {
         return None;
     }
+    // arrays with their counts beside, as nothing is allocated
     let (first, others) = figures.split_at(3 * split);
     let mut of_streams = [StreamFigures::default(); 16];
     read_figures(
@@ -183,6 +181,7 @@ fn settle<R: Ranking>(board: &mut Board<R>, parties: u8) -> u64 {
             match board.turn(party) {
                 Ok(Turned::Idle) => idle = idle.saturating_add(1),
                 Ok(Turned::Moved { .. }) => idle = 0,
+                // no party is refused here; the caller takes a number
                 Err(_) => return turns,
             }
         }

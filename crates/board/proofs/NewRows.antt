@@ -17,9 +17,9 @@ pub record NewRow (m : Market) (k a : ℕ) (row : Row) : Type 0 where
   pub bidder : (b : ℕ) → has row.bidders.0 b ≡ false
 
 -- where all rows are one that holds nobody and has no members, nobody's open set is set
-pub empty_rows : (m : Market) (row : Row) → row.holding ≡ None → ((b : ℕ) → has row.open_set.0 b ≡ false) → ((b : ℕ) → has row.bidders.0 b ≡ false) → (a : ℕ) → NewRow m 0 a (get_or (replicate 32 row) a no_row)
+pub empty_rows : (m : Market) (row : Row) → row.holding ≡ None → row.open_set.0 ≡ 0 → row.bidders.0 ≡ 0 → (a : ℕ) → NewRow m 0 a (get_or (replicate 32 row) a no_row)
 empty_rows m row e f g a = ⊎_elim
-    (λ l. rw (get_or-replicate 32 a row no_row l) (record { holding = e; opens = λ b. f b ∙ nobody_below a (across m a b); bidder = g }))
+    (λ l. rw (get_or-replicate 32 a row no_row l) (record { holding = e; opens = λ b. rw f (has_none b) ∙ nobody_below a (across m a b); bidder = λ b. rw g (has_none b) }))
     (λ l. rw (get_or_past (replicate 32 row) a no_row l) (record { holding = refl; opens = λ b. has_none b ∙ nobody_below a (across m a b); bidder = has_none }))
     (cases_lt a 32)
   where

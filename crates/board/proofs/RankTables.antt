@@ -56,7 +56,7 @@ module _ (m : Market) (law : LawfulMarket m) where
 -- the market of a table of ranks is lawful
 pub lawful_table : (ranks : RankTable) → LawfulMarket (market_in ranks)
 lawful_table ranks = record {
-  sized = ranks.sizes;
+  sized = ranks.sizes.lawful;
   across = λ p q k e. across_parts (market_in ranks) p q (ranks.sides p q (ap is_some e));
   bounded = λ p q k e. ranks.bounded (p, q, k) e;
   strict = λ p q r k e f. ranks.strict (p, q, r, k) (e, f);

@@ -26,4 +26,4 @@ state_of rows = state_in rows.rows
 
 -- the market that a table of ranks means
 abbrev pub market_in : RankTable → Market
-market_in ranks = table_market ranks.streams ranks.lanes ranks.table
+market_in ranks = table_market ranks.sizes.streams ranks.sizes.lanes ranks.table

@@ -11,11 +11,12 @@ ghost use Rattle.board.specs.Kept.{Kept};
 ghost use Rattle.board.specs.Meaning.{state_in, state_of};
 ghost use Rattle.board.specs.Calls.{party_fault, tally_of, pairing_at};
 
-use crate::rows::{MOST_STREAMS, Rows};
+use crate::rows::Rows;
 use crate::tables::Tables;
 use crate::turned::Turned;
 use ranking::interface::Ranking;
 use record::refusal::Refusal;
+use record::sizes::MOST_STREAMS;
 use sets::Members;
 use std::marker::Model;
 

@@ -13,13 +13,14 @@ ghost use Rattle.board.specs.Calls.{market_at, state_at, Sought, BestOpen, answe
 ghost use Rattle.board.specs.Meaning.{state_of, market_in};
 
 use crate::rank_table::RankTable;
-use crate::rows::{MOST_STREAMS, Rows};
+use crate::rows::Rows;
 use crate::soundness::Unchecked;
 use crate::tables::Tables;
 use crate::turned::Turned;
 use ranking::finder::is_better;
 use ranking::interface::Ranking;
 use ranking::pairing::NOBODY;
+use record::sizes::MOST_STREAMS;
 
 // Whom a stream holds as a byte of a pairing: the number of its lane, or 255 for nobody.
 fn lane_byte(held: Option<u8>, streams: u8) -> u8
@@ -30,6 +31,7 @@ fn lane_byte(held: Option<u8>, streams: u8) -> u8
 }
 
 /// What an offer of p to q came to.
+// Two named cases: of an `Option` of the two wronged parties, none would read as no offer.
 #[derive(Clone, Copy)]
 pub(crate) enum Offered {
     /// q did not take p.
@@ -234,7 +236,7 @@ impl Tables {
         ensures is_a_lawful_pairing { let m = market_at self.now in LawfulPairing m (take m.streams result) }
         ensures holds_as_the_board { let m = market_at self.now in holding_of m (take m.streams result) ≡ (state_at self.now).holding }
     {
-        let streams = self.ranks.streams;
+        let streams = self.ranks.sizes.streams;
         let mut lanes = [NOBODY; MOST_STREAMS];
         // over the numbers of the streams, which are their places too; the places past them stay as they are
         for stream in 0..streams {

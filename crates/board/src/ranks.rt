@@ -11,6 +11,7 @@ use crate::rank_table::RankTable;
 use crate::rows::MOST_PARTIES;
 use ranking::interface::{Ranking, rank_between};
 use record::refusal::Refusal;
+use record::sizes::Sizes;
 use sets::Members;
 use std::array;
 
@@ -38,28 +39,29 @@ impl RankTable {
     pub(crate) fn of<R: Ranking>(ranking: &R) -> RankTable
         ensures is_its_market { market_in result ≡ market_of (R.meaning ranking.now) }
     {
-        RankTable {
+        let sizes = Sizes {
             streams: ranking.streams(),
             lanes: ranking.lanes(),
-            table: ranks_of(ranking),
-        }
+        };
+        let table = ranks_of(ranking);
+        RankTable { sizes, table }
     }
 
     /// How many parties there are.
     pub(crate) fn parties(&self) -> u8
         ensures is_the_count { (result ≡ party_count (market_in self.now)) × (result ≤ 32) }
     {
-        self.streams + self.lanes
+        self.sizes.streams + self.sizes.lanes
     }
 
     /// The parties of the other side of a party's; nobody for a number that is no party's.
     pub(crate) fn other_side(&self, party: u8) -> Members
         ensures is_the_other_side { (j : ℕ) → has result.0 j ≡ across (market_in self.now) party j }
     {
-        if party < self.streams {
-            Members::range(self.streams, self.parties())
+        if party < self.sizes.streams {
+            Members::range(self.sizes.streams, self.parties())
         } else if party < self.parties() {
-            Members::range(0, self.streams)
+            Members::range(0, self.sizes.streams)
         } else {
             Members::none()
         }

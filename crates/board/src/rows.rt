@@ -5,14 +5,11 @@ ghost use Rattle.board.specs.Offer.{with_holding, joins, loses, leaves, pairs_up
 use crate::rank_table::RankTable;
 use sets::Members;
 
-/// The most streams.
-pub const MOST_STREAMS: usize = 16;
-
 /// The most parties.
 pub const MOST_PARTIES: usize = 32;
 
 /// What a board holds of one party: whom it holds, its open set, and its bidders.
-#[derive(Clone, Copy)]
+#[derive(Clone, Copy, Default)]
 pub struct Row {
     pub holding: Option<u8>,
     pub open_set: Members,
@@ -33,12 +30,7 @@ impl Rows {
     pub(crate) fn new(ranks: &RankTable) -> Rows
         ensures are_new { state_of result ≡ new_state (market_in ranks.now) }
     {
-        let empty = Row {
-            holding: None,
-            open_set: Members::none(),
-            bidders: Members::none(),
-        };
-        let mut rows = [empty; MOST_PARTIES];
+        let mut rows = [Row::default(); MOST_PARTIES];
         // a loop: with `array::from_fn` the proof did not learn what its closure got from `other_side`
         for party in 0..ranks.parties() {
             rows[party as usize].open_set = ranks.other_side(party);

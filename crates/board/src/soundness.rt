@@ -40,7 +40,7 @@ impl Unchecked<'_> {
         requires has_a_row { a < 32 }
         ensures says_whether { Decides result ((b : ℕ) → held_right (market_in self.entry.ranks.now) (state_of self.entry.rows.now) a b ≡ true) }
     {
-        // a `match`, since of `is_none_or` with this closure no proof was found without a long lemma
+        // a `match`: tried with `is_none_or`, where it stayed open that its `true` says `held_right` of every party
         match self.rows.row(a).holding {
             Some(b) => b < 32 && self.partner_is_right(a, b),
             None => true,

@@ -1,4 +1,5 @@
 /// What a turn answers.
+// Two named cases, as the project names them; an idle turn is an answer, and not the want of one.
 #[derive(Clone, Copy, PartialEq, Eq, Debug)]
 pub enum Turned {
     /// The party was content: nothing changed.

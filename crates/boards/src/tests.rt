@@ -99,12 +99,7 @@ fn one_sided_board(rt: HostRuntime) -> Result<(), Fail> {
 
 // Rows of four parties: whom each holds, and its bidders as one number or nobody; all open sets are full.
 fn four_rows(holdings: [u8; 4], bidders: [u8; 4]) -> Rows {
-    let nobody = Row {
-        holding: None,
-        open_set: Members::none(),
-        bidders: Members::none(),
-    };
-    let mut rows = [nobody; 32];
+    let mut rows = [Row::default(); 32];
     for (k, row) in rows[..4].iter_mut().enumerate() {
         let mut set = Members::none();
         set.insert(bidders[k]);

@@ -26,7 +26,7 @@ fn main(rt: HostRuntime) -> io::Result<ExitCode> {
                 Ok(ExitCode::FAILURE)
             }
         }
-        // The text has room for every answer.
+        // The text has room for every answer; an exit status is a number.
         Err(_) => Ok(ExitCode::FAILURE),
     }
 }

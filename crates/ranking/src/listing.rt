@@ -108,6 +108,7 @@ impl Ranking for Listing {
 
     fn rank_by_stream(&self, stream: u8, lane: u8) -> Option<u16> {
         let table = self.table.as_ref()?;
+        // no `then`, here and below: the place in the table is read only where there are such a stream and lane
         if table.has(stream, lane) {
             table.places[stream as usize][lane as usize]
         } else {

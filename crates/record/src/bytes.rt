@@ -37,7 +37,8 @@ pub fn words_of(bytes: &[u8], words: &mut [u32]) -> Result<usize, Refusal>
     if words.len() < count {
         return Err(Refusal::Room(count as u16));
     }
-    // By the number of the word: of a `zip` with `chunks_exact` the proof does not learn what was written.
+    // By the number of the word: of a `zip` with `chunks_exact` the proof does not learn what was written. The count is the answer,
+    // as the project's calls over a caller's list have it.
     for (k, word) in words[..count].iter_mut().enumerate() {
         *word = word_at(bytes, k);
     }

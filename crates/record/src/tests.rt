@@ -4,7 +4,7 @@ use crate::refusal::Refusal;
 use std::process::Abort;
 use std::test::Fail;
 
-// The number and the place of a refusal, or two zeroes where nothing is refused.
+// The number and the place of a refusal, as the documents write them, or two zeroes where nothing is refused.
 fn code<T: Drop>(answer: Result<T, Refusal>) -> (u8, u16) {
     match answer {
         Ok(_) => (0, 0),

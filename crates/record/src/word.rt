@@ -19,7 +19,7 @@ pub enum Kind {
 }
 
 impl Kind {
-    /// The kind of a word, if its number is one's.
+    /// The kind of a word, if its number is one's; the numbers are the format's.
     pub fn of(word: u32) -> Option<Kind>
         ensures is_the_kind { (k : Kind) → (result ≡ Some k) ↔ (kind word ≡ kind_number k) }
     {
@@ -41,6 +41,7 @@ pub fn kind_of(word: u32) -> u32
     word >> 28
 }
 
+// Three names of the format for three bytes: a const parameter for which would save nothing.
 /// Bits 23 to 16: a choice's owner.
 pub fn high_byte(word: u32) -> u8
     ensures is_the_high_byte { result ≡ high word }

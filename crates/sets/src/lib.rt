@@ -5,7 +5,7 @@ ghost use Rattle.std.specs.Prelude.{◌≡◌, ℕ, ◌-◌, ◌<◌, Bool, true
 ghost use Rattle.sets.specs.Sets.{has};
 
 /// A set of numbers, 0 to 31: of parties, or of the parties of one side by their numbers within it.
-#[derive(Clone, Copy, PartialEq, Eq)]
+#[derive(Clone, Copy, PartialEq, Eq, Default)]
 pub struct Members(u32);
 
 impl Members {

@@ -17,7 +17,7 @@ loop-other-init c =
 
 -- a chain that has ended, by ranks that are the first ones
 abbrev Ended : Option ℕ → State → ℕ → State → ℕ → RankTable → Type 0
-Ended waiting start first τ k r = Chain (market_in r) waiting start first τ k × (k ≤ r.streams * r.lanes)
+Ended waiting start first τ k r = Chain (market_in r) waiting start first τ k × (k ≤ r.sizes.streams * r.sizes.lanes)
 
 pub returns : goal.returns
 returns c =

@@ -9,7 +9,7 @@ use Rattle.board.proofs.tables.Tables.pairing.Goals as goal
 pub lane_byte-requires : goal.lane_byte-requires
 lane_byte-requires c =
     let t = c.args.self.now in
-    record { is_a_lane = subst (λ o. IfSome o (λ q. t.ranks.streams ≤ q)) (sym (ap (λ (r : Row). r.holding) c.row.ensures.is_the_row)) (stream_holds_lane (market_at t) (lawful_table t.ranks) (state_at t) t.kept c.loop-stream.stream (omega arith)) }
+    record { is_a_lane = subst (λ o. IfSome o (λ q. t.ranks.sizes.streams ≤ q)) (sym (ap (λ (r : Row). r.holding) c.row.ensures.is_the_row)) (stream_holds_lane (market_at t) (lawful_table t.ranks) (state_at t) t.kept c.loop-stream.stream (omega arith)) }
 
 pub returns : goal.returns
 returns c =
@@ -17,7 +17,7 @@ returns c =
     let m = market_at t in
     let law = lawful_table t.ranks in
     let inv = c.loop-stream.invariant in
-    let all : c.loop-stream.stream ≡ t.ranks.streams = omega arith in
+    let all : c.loop-stream.stream ≡ t.ranks.sizes.streams = omega arith in
     let is = pairing_is m law (state_at t) t.kept c.loop-stream.lanes (omega arith) (λ i h. inv.1 i (omega arith)) in
     record {
       is_the_pairing = is;
