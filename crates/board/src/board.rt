@@ -40,6 +40,7 @@ impl<R: Ranking> Model for Board<R> {
     ghost invariant = { λ b. market_at b.tables ≡ market_of (R.meaning b.ranking) };
 }
 
+// `keeps_what_every_board_keeps` stands in every call, since a model's invariant is not seen outside: a caller learns it of the calls.
 impl<R: Ranking> Board<R> {
     /// A new board: nobody holds anybody, every open set is the whole other side, and there are no bidders.
     pub fn new(ranking: R) -> Board<R>

@@ -86,6 +86,7 @@ impl Side {
     fn score(&self, of: u8, ranked: &Side, number: u8) -> Option<u16>
         ensures is_the_score { result ≡ score_between self.now.count ranked.now.count (figured_at self.now.figures) (figured_at ranked.now.figures) of number }
     {
+        // no `then`: the figures are read only where there are both parties
         if of < self.count && number < ranked.count {
             self.figures[of as usize].score(ranked.figures[number as usize], number)
         } else {

@@ -10,7 +10,7 @@ pub const FEWEST_WORDS: usize = 2;
 /// The most words of a record.
 pub const MOST_WORDS: usize = 8192;
 
-// Word `k` of the bytes.
+// Word `k` of the bytes. Its four bytes are named, as a slice of four would have to be made an array with a case for another length.
 fn word_at(bytes: &[u8], k: usize) -> u32
     requires whole { k < length bytes.now / 4 }
     ensures is_the_word { result ≡ word_at bytes.now k }

@@ -22,6 +22,7 @@ pub trait Scan {
     fn kind(&self) -> Kind
         ensures is_the_kind { result ≡ scans self.now };
 
+    // Limits, a word and its place are three things that no fact ties, so they have no type of their own.
     /// Reads one more word of the kind, the word at `at`.
     fn word(&mut self, sizes: Sizes, word: u32, at: u16) -> Result<(), Refusal>
         requires of_the_kind { kind word ≡ kind_number (scans self.old) }
