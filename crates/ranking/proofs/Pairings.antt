@@ -9,6 +9,13 @@ use Rattle.record.proofs.Lists.{among_place, among_from, place_at_lem, place_pus
 use Rattle.ranking.specs.Market.{Market}
 use Rattle.ranking.specs.Pairings.{wrong_at, stream_fault, pairing_fault, LawfulPairing, TableOf}
 
+-- a byte that is right refuses nothing, and one that is wrong refuses
+pub no_stream_fault : (m : Market) (bytes : List ℕ) (i : ℕ) → wrong_at m bytes i ≡ false → stream_fault m bytes i ≡ None
+no_stream_fault m bytes i e = ap (λ b. refuse_if b (8, i)) e
+
+pub stream_fault_lem : (m : Market) (bytes : List ℕ) (i : ℕ) → wrong_at m bytes i ≡ true → stream_fault m bytes i ≡ Some (8, i)
+stream_fault_lem m bytes i e = ap (λ b. refuse_if b (8, i)) e
+
 -- when the byte of a stream is wrong, by what it names
 pub wrong_lane : (m : Market) (bytes : List ℕ) (i : ℕ) → get_or bytes i 0 < m.lanes → wrong_at m bytes i ≡ among (get_or bytes i 0) (take i bytes)
 wrong_lane m bytes i h = grind (arith, nat_tests)
@@ -35,7 +42,7 @@ table_skip xs table byte t h = (t.0, λ j b. t.1 j b ∙ sym (place_push_other j
 -- the pairing is refused at the first stream whose byte is wrong
 pub fault_at_lem : (m : Market) (bytes : List ℕ) (i : ℕ) → length bytes ≡ m.streams → i < m.streams → earliest (stream_fault m bytes) i ≡ None → wrong_at m bytes i ≡ true → pairing_fault m bytes ≡ Some (8, i)
 fault_at_lem m bytes i n h e w =
-    let found = earliest_found (stream_fault m bytes) i m.streams (8, i) h e (ap (λ b. refuse_if b (8, i)) w) in
+    let found = earliest_found (stream_fault m bytes) i m.streams (8, i) h e (stream_fault_lem m bytes i w) in
     grind (arith, nat_tests)
 
 -- the pairing is not refused where no stream's byte is wrong

@@ -3,15 +3,13 @@ use Rattle.std.specs.Prelude.{◌≡◌, ℕ, ◌+◌, ◌<◌, cond, List, Some
 use Rattle.std.proofs.Common.{arith}
 use Rattle.std.proofs.lemmas.Bool.Decides.{nat_tests}
 use Rattle.ranking.specs.Market.{Strict, Bounded, StrictRanks, BoundedRanks}
-use Rattle.ranking.specs.Places.{place_at, DistinctPlaces, SmallPlaces}
+use Rattle.ranking.specs.Places.{entry, place_at, DistinctPlaces}
 use Rattle.ranking.specs.Listings.{filled_meaning}
 use Rattle.ranking.specs.declared.listing.PlaceTable.{PlaceTable}
 
 -- what a rank of a table tells
-pub rank_told : (places : List (List (Option ℕ))) (n m i j p q k : ℕ) → SmallPlaces places → cond (nat_lt i n) (cond (nat_lt j m) (place_at places p q) None) None ≡ Some k → (i < n) × (j < m) × (place_at places p q ≡ Some k) × (k < 255)
-rank_told places n m i j p q k small e =
-    let x : (i < n) × (j < m) × (place_at places p q ≡ Some k) = grind (arith, nat_tests) in
-    (x.0, x.1, x.2, small p q k x.2)
+pub rank_told : (places : List (List (Option ℕ))) (n m i j p q k : ℕ) → cond (nat_lt i n) (cond (nat_lt j m) (place_at places p q) None) None ≡ Some k → (i < n) × (j < m) × (entry places p q ≡ Some k) × (k < 255)
+rank_told places n m i j p q k e = grind (arith, nat_tests)
 
 -- no two parties have one rank
 pub table_strict : (places : List (List (Option ℕ))) (n m : ℕ) (row : ℕ → ℕ) → DistinctPlaces places → Strict (λ i j. cond (nat_lt i n) (cond (nat_lt j m) (place_at places (row i) j) None) None)
@@ -21,9 +19,9 @@ table_strict places n m row distinct i j l k a b =
     distinct (row i) j l k x y
 
 -- a rank is given only within the table, and is at most 65,535
-pub table_bounded : (places : List (List (Option ℕ))) (n m : ℕ) (row : ℕ → ℕ) → SmallPlaces places → Bounded n m (λ i j. cond (nat_lt i n) (cond (nat_lt j m) (place_at places (row i) j) None) None)
-table_bounded places n m row small i j k e =
-    let x = rank_told places n m i j (row i) j k small e in
+pub table_bounded : (places : List (List (Option ℕ))) (n m : ℕ) (row : ℕ → ℕ) → Bounded n m (λ i j. cond (nat_lt i n) (cond (nat_lt j m) (place_at places (row i) j) None) None)
+table_bounded places n m row i j k e =
+    let x = rank_told places n m i j (row i) j k e in
     (x.0, x.1, omega arith)
 
 -- a listing's laws, filled or not
@@ -33,4 +31,4 @@ filled_strict (Some t) = (table_strict t.places t.sizes.streams t.sizes.lanes (�
 
 pub filled_bounded : (t : Option PlaceTable) → BoundedRanks (filled_meaning t)
 filled_bounded None = (λ i j k e. grind arith, λ i j k e. grind arith)
-filled_bounded (Some t) = (table_bounded t.places t.sizes.streams t.sizes.lanes (λ i. i) t.small, table_bounded t.places t.sizes.lanes t.sizes.streams (λ j. t.sizes.streams + j) t.small)
+filled_bounded (Some t) = (table_bounded t.places t.sizes.streams t.sizes.lanes (λ i. i), table_bounded t.places t.sizes.lanes t.sizes.streams (λ j. t.sizes.streams + j))

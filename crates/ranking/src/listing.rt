@@ -9,7 +9,7 @@ use record::sizes::Sizes;
 use record::word::{high_byte, low_byte, middle_byte};
 
 // A row for each party, streams first and then lanes, and in it the place that the party gives each of the other side.
-type Places = [[Option<u16>; 16]; 32];
+type Places = [[Option<u8>; 16]; 32];
 
 // What a record's choices say: the sizes, and the place that each party gives each of the other side.
 #[derive(Clone, Copy)]
@@ -36,7 +36,7 @@ fn places_of(choices: &[u32]) -> Places
     for &word in choices {
         let owner = high_byte(word) as usize;
         let ranked = low_byte(word) as usize;
-        places[owner][ranked] = Some(u16::from(middle_byte(word)));
+        places[owner][ranked] = Some(middle_byte(word));
     }
     places
 }
@@ -110,7 +110,7 @@ impl Ranking for Listing {
         let table = self.table.as_ref()?;
         // no `then`, here and below: the place in the table is read only where there are such a stream and lane
         if table.has(stream, lane) {
-            table.places[stream as usize][lane as usize]
+            table.places[stream as usize][lane as usize].map(u16::from)
         } else {
             None
         }
@@ -119,7 +119,7 @@ impl Ranking for Listing {
     fn rank_by_lane(&self, lane: u8, stream: u8) -> Option<u16> {
         let table = self.table.as_ref()?;
         if table.has(stream, lane) {
-            table.places[(table.sizes.streams + lane) as usize][stream as usize]
+            table.places[(table.sizes.streams + lane) as usize][stream as usize].map(u16::from)
         } else {
             None
         }

@@ -32,6 +32,19 @@ impl Kind {
             _ => None,
         }
     }
+
+    /// The number of the kind, as the format gives it.
+    pub fn number(self) -> u32
+        ensures is_the_number { result ≡ kind_number self }
+    {
+        match self {
+            Kind::Head => 1,
+            Kind::Choice => 2,
+            Kind::Turn => 3,
+            Kind::Pair => 4,
+            Kind::End => 5,
+        }
+    }
 }
 
 /// The number of a word's kind, its top four bits.

@@ -6,7 +6,7 @@ use Rattle.std.proofs.lemmas.Nat.{shr-shr, pow_pos}
 use mir.Syntax.{w32}
 use Rattle.std.specs.Int.{bit_at, bit_not, trailing_zeros}
 use Rattle.std.proofs.lemmas.Nat.Bits.{bit_at-trailing_zeros, bit_at_set_same, bit_at_set_other, bit_at_clear_same, bit_at_clear_other, bit_at_above, bit_at-zero, bit_at_and, bit_at_not, bit_at-lt, same_from_bits_below, same_from_bits, bit_at-pow_same, bit_at-pow_other, bit_at_cat_low, bit_at_cat_high, bit_at_ones_above}
-use Rattle.std.proofs.lemmas.Bool.{both_ways, cases_eq, cases_lt, ne_eqb, eq-eqb}
+use Rattle.std.proofs.lemmas.Bool.{both_ways, cases_eq, cases_lt, ne_eqb, eq-eqb, eqb-false}
 use Rattle.std.proofs.lemmas.Bool.Decides.{nat_tests}
 use Rattle.sets.specs.Sets.{has}
 
@@ -18,6 +18,11 @@ has_none j = ap (λ b. eqb b 1) (bit_at-zero j)
 pub has_above : (m k : ℕ) → m < 2 ^ 32 → 32 ≤ k → has m k ≡ false
 unfolding has
 has_above m k f h = ap (λ b. eqb b 1) (bit_at_above m 32 k f h)
+
+-- a set of few bits with no member is the empty one
+pub no_members_lem : (w m : ℕ) → m < 2 ^ w → ((j : ℕ) → has m j ≡ false) → m ≡ 0
+unfolding has
+no_members_lem w m h f = same_from_bits_below w m 0 h (pow_pos w) (λ j l. (let n = eqb-false (bit_at m j) 1 (f j) in omega (arith, bit_at-lt m j)) ∙ sym (bit_at-zero j))
 
 -- one bit decides: it is as wanted at k, and as it was elsewhere
 at_one : (x y j k : ℕ) (a b : Bool) → (j ≡ k → eqb x 1 ≡ a) → (j ≡ k → b ≡ a) → ((j ≡ k → ⊥) → x ≡ y) → ((j ≡ k → ⊥) → b ≡ eqb y 1) → eqb x 1 ≡ b

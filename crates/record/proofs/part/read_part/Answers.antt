@@ -1,10 +1,10 @@
-use Rattle.std.proofs.Common.{rules, ◌≡◌, ◌-◌, ◌≤◌, length, get_or, take, Some, sym, ap, refl, ◌∙◌, subst, arith}
+use Rattle.std.proofs.Common.{rules, ◌≡◌, ◌≤◌, get_or, take, Some, sym, refl, ◌∙◌, subst, arith}
 use Rattle.std.proofs.lemmas.List.{take_more}
 use Rattle.std.proofs.lemmas.Result.{err_from_is_err_and}
 use Rattle.record.specs.Faults.{kind}
 use Rattle.record.specs.Kinds.{kind_number}
-use Rattle.record.specs.Reading.{ReadTo, PartRead}
-use Rattle.record.proofs.Passing.{going_start, going_step, going_stops, going_ends, going_fault, fault_of_part}
+use Rattle.record.specs.Reading.{ReadTo}
+use Rattle.record.proofs.Passing.{going_start, going_step, going_fault, fault_of_part}
 use Rattle.record.proofs.part.read_part.Goals as goal
 
 pub loop-at-init : goal.loop-at-init

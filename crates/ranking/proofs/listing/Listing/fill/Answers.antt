@@ -19,6 +19,6 @@ returns-clause-ranks_by_the_content c =
       told.0,
       (
         told.1,
-        table_content told.0 told.1.0.lawful c.in_ok-parts.parts.choices.words.now c.places_of-places.result c.in_ok-parts.parts.sizes.streams c.in_ok-parts.parts.sizes.lanes parts.choice_part c.places_of-places.ensures.has_every_place parts.streams parts.lanes,
+        table_content told.0 told.1.0.lawful c.in_ok-parts.parts.choices.words.now c.places_of-places.result c.in_ok-parts.parts.sizes.streams c.in_ok-parts.parts.sizes.lanes parts.choice_part (λ p q _ _. c.places_of-places.ensures.has_every_place p q) parts.streams parts.lanes,
       ),
     )
