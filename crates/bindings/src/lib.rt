@@ -65,12 +65,10 @@ fn put_block<R: Ranking>(board: &Board<R>, answer: [u32; 3], block: &mut [u32]) 
         return;
     }
     block[..3].copy_from_slice(&answer);
-    for (party, words) in (0..32u8).zip(block[3..131].chunks_exact_mut(4)) {
+    for party in 0..32u8 {
+        let at = 3 + 4 * usize::from(party);
         let told = party_words(board, party).unwrap_or([REFUSED; 4]);
-        // not `copy_from_slice`: that a part has four words is not known of `chunks_exact_mut`
-        for (word, part) in words.iter_mut().zip(told) {
-            *word = part;
-        }
+        block[at..at + 4].copy_from_slice(&told);
     }
     block[131] = board.is_standstill().into();
     for (word, lane) in block[132..].iter_mut().zip(board.pairing()) {

@@ -3,6 +3,7 @@ mod Offers
 mod Keeping
 mod NewRows
 mod RankTables
+mod Filling
 mod Sums
 mod Standing
 mod Rooms

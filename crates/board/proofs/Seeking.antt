@@ -1,5 +1,5 @@
 -- The search for the best ranked member of an open set, and what it says of who is content.
-use Rattle.std.proofs.Common.{◌≡◌, ℕ, ◌<◌, ◌≤◌, Bool, true, false, not, eqb, ltb, is_some, Some, None, Option, sym, refl, ap, ◌∙◌, subst, ⊎_elim, arith}
+use Rattle.std.proofs.Common.{◌≡◌, ℕ, ◌<◌, ◌≤◌, Bool, true, false, cond, not, ◌&&◌, eqb, ltb, ◌==◌, nat_lt, is_some, Some, None, Option, sym, refl, ap, ◌∙◌, subst, ⊎_elim, arith}
 use Rattle.std.proofs.lemmas.Bool.{and_from, and_right, and_left, both_ways, cases_lt, cases_Bool, lt-ltb, eq-eqb, eqb-true}
 use Rattle.std.proofs.lemmas.Bool.Decides.{nat_tests}
 use Rattle.ranking.specs.Market.{Market, prefers, LawfulMarket}
@@ -36,6 +36,10 @@ strictly_better (Some k) (Some l) e f d n = ⊎_elim (λ (h : k < l). lt-ltb k l
     again : l ≤ k → ⊥
     again h = ⊎_elim (λ (i : l < k). both_ways (ltb l k) n (lt-ltb l k i)) (λ (i : k ≤ l). d l (ap Some (let s : k ≡ l = omega arith in s)) refl) (cases_lt l k)
 
+-- the rank that a number says: itself, or none from 65,536 on
+abbrev pub rank_from : ℕ → Option ℕ
+rank_from x = cond (nat_lt x 65536) (Some x) None
+
 -- what was found among the members that were looked at
 abbrev FoundAt : Market → State → ℕ → Option ℕ → Option ℕ → Type 0
 FoundAt m σ p None best = best ≡ None
@@ -46,6 +50,24 @@ pub record Found (m : Market) (σ : State) (p : ℕ) (left : ℕ → Bool) (foun
   pub within : (r : ℕ) → left r ≡ true → σ.opens p r ≡ true
   pub least : (r : ℕ) → σ.opens p r ≡ true → left r ≡ false → prefers (m.rank p r) best ≡ false
   pub is : FoundAt m σ p found best
+
+-- a member that is taken out, with a rank below all that were found
+pub found_lower : (m : Market) (σ : State) (p : ℕ) (left after : ℕ → Bool) (found : Option ℕ) (lowest k q : ℕ) → Found m σ p left found (rank_from lowest) → left q ≡ true → ((r : ℕ) → after r ≡ (not (r == q) && left r)) → m.rank p q ≡ Some k → k ≤ 65535 → k < lowest → Found m σ p after (Some q) (rank_from k)
+found_lower m σ p left after found lowest k q held member taken e few low = record {
+  within = λ r a. let was = held.within r in let now = taken r in grind (arith, nat_tests);
+  least = λ r o a.
+      let now = taken r in
+      let was = held.least r o in
+      let down = not_better_down (m.rank p r) (Some k) (rank_from lowest) lower in
+      grind (arith, nat_tests);
+  is = (held.within q member, e ∙ sym ranked, ap is_some ranked);
+}
+  where
+    ranked : rank_from k ≡ Some k
+    ranked = grind (arith, nat_tests)
+
+    lower : prefers (Some k) (rank_from lowest) ≡ true
+    lower = grind (arith, nat_tests)
 
 module _ (m : Market) (law : LawfulMarket m) (σ : State) (kept : Kept m σ) (p : ℕ) where
   -- where p holds the best of its open set, it is content; otherwise the best is sought

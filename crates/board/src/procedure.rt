@@ -22,6 +22,9 @@ use ranking::interface::Ranking;
 use ranking::pairing::NOBODY;
 use record::sizes::MOST_STREAMS;
 
+/// Above every rank.
+const NO_RANK: u32 = 65536;
+
 // Whom a stream holds as a byte of a pairing: the number of its lane, or 255 for nobody.
 fn lane_byte(held: Option<u8>, streams: u8) -> u8
     requires is_a_lane { IfSome held (λ q. streams ≤ q) }
@@ -78,12 +81,14 @@ impl Tables {
     {
         let mut open = self.rows.row(party).open_set;
         let mut found = None;
-        let mut best_rank = None;
+        // a number, and no `Option`: that a member was found already is one test more for each
+        let mut lowest = NO_RANK;
         while let Some(other) = open.pop_first() {
-            let rank = self.ranks.rank(party, other);
-            if is_better(rank, best_rank) {
-                best_rank = rank;
-                found = Some(other);
+            if let Some(rank) = self.ranks.rank(party, other) {
+                if u32::from(rank) < lowest {
+                    lowest = u32::from(rank);
+                    found = Some(other);
+                }
             }
         }
         found

@@ -2,36 +2,33 @@ ghost use Rattle.std.specs.Prelude.{◌≡◌, ℕ, ◌+◌, ◌<◌, ◌≤◌}
 ghost use Rattle.ranking.specs.Market.{market_of};
 ghost use Rattle.sets.specs.Sets.{has};
 ghost use Rattle.board.specs.Sides.{party_count, across};
-ghost use Rattle.board.specs.RankTables.{ranks_by, table_of};
+ghost use Rattle.board.specs.RankTables.{table_of};
 ghost use Rattle.record.specs.Refusals.{refused_by};
 ghost use Rattle.board.specs.Meaning.{market_in};
 ghost use Rattle.board.specs.Calls.{party_fault};
 
 use crate::rank_table::RankTable;
 use crate::rows::MOST_PARTIES;
-use ranking::interface::{Ranking, rank_between};
+use ranking::interface::Ranking;
 use record::refusal::Refusal;
 use record::sizes::Sizes;
 use sets::Members;
-use std::array;
 
-// The ranks that a party gives the others.
-fn ranks_by<R: Ranking>(ranking: &R, party: u8) -> [Option<u16>; MOST_PARTIES]
-    ensures are_its_ranks { result ≡ ranks_by (market_of (R.meaning ranking.now)) party }
-{
-    array::from_fn(|other| rank_between(ranking, party, other as u8))
-}
-
-// The ranks of a ranking by party numbers.
-fn ranks_of<R: Ranking>(ranking: &R) -> [[Option<u16>; MOST_PARTIES]; MOST_PARTIES]
+// The ranks of a ranking by party numbers. Every question is put once, and only of a stream and a lane that there are.
+// By their numbers, and into rows that are there: with `array::from_fn` each row is made apart and then copied.
+fn ranks_of<R: Ranking>(ranking: &R, sizes: Sizes) -> [[Option<u16>; MOST_PARTIES]; MOST_PARTIES]
+    requires its_sizes { (sizes.streams ≡ (R.meaning ranking.now).streams) × (sizes.lanes ≡ (R.meaning ranking.now).lanes) }
     ensures is_its_table { result ≡ table_of (market_of (R.meaning ranking.now)) }
 {
-    array::from_fn(
-        |party| -> [Option<u16>; MOST_PARTIES]
-            requires has_a_row { party < 32 }
-            ensures are_its_ranks { result ≡ ranks_by (market_of (R.meaning ranking.entry.now)) party }
-        { ranks_by(ranking, party as u8) },
-    )
+    let mut table = [[None; MOST_PARTIES]; MOST_PARTIES];
+    for stream in 0..sizes.streams {
+        for lane in 0..sizes.lanes {
+            let party = sizes.streams + lane;
+            table[stream as usize][party as usize] = ranking.rank_by_stream(stream, lane);
+            table[party as usize][stream as usize] = ranking.rank_by_lane(lane, stream);
+        }
+    }
+    table
 }
 
 impl RankTable {
@@ -43,7 +40,7 @@ impl RankTable {
             streams: ranking.streams(),
             lanes: ranking.lanes(),
         };
-        let table = ranks_of(ranking);
+        let table = ranks_of(ranking, sizes);
         RankTable { sizes, table }
     }
 

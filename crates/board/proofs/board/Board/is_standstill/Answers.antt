@@ -15,14 +15,14 @@ pub returns-clause-says_whether : goal.returns-clause-says_whether
 returns-clause-says_whether g c =
     let whether = c.is_standstill.result in
     let answer = c.is_standstill.ensures in
-    let says = subst (λ v. Says whether (market_of (g.R.Ranking.meaning v.ranking)) (state_in v.rows)) c.self.view_is
-    (subst (λ (m : Market). Says whether m (state_at c.self.inside.tables)) c.self.invariant (answer.says_whether, answer.standstill_is_stable)) in
+    let says = subst (λ v. Says whether (market_of (g.R.Ranking.meaning v.parts.ranking)) (state_in v.parts.rows)) c.self.view_is
+    (subst (λ (m : Market). Says whether m (state_at c.self.inside.0.0.tables)) c.self.invariant (answer.says_whether, answer.standstill_is_stable)) in
     says.0
 
 pub returns-clause-standstill_is_stable : goal.returns-clause-standstill_is_stable
 returns-clause-standstill_is_stable g c =
     let whether = c.is_standstill.result in
     let answer = c.is_standstill.ensures in
-    let says = subst (λ v. Says whether (market_of (g.R.Ranking.meaning v.ranking)) (state_in v.rows)) c.self.view_is
-    (subst (λ (m : Market). Says whether m (state_at c.self.inside.tables)) c.self.invariant (answer.says_whether, answer.standstill_is_stable)) in
+    let says = subst (λ v. Says whether (market_of (g.R.Ranking.meaning v.parts.ranking)) (state_in v.parts.rows)) c.self.view_is
+    (subst (λ (m : Market). Says whether m (state_at c.self.inside.0.0.tables)) c.self.invariant (answer.says_whether, answer.standstill_is_stable)) in
     says.1
