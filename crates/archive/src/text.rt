@@ -27,6 +27,16 @@ impl Cursor<'_> {
         self.at = end;
     }
 
+    // Writes one byte: no slice is made and copied for it.
+    fn push(&mut self, byte: u8)
+        requires there_is_room { self.old.at + 1 ≤ length self.old.bytes.now }
+        ensures same_list { self.new.bytes.ghost_name ≡ self.old.bytes.ghost_name }
+        ensures wrote_the_byte { Wrote self.old.bytes.now self.old.at (byte ∷ []) self.new.bytes.now self.new.at }
+    {
+        self.bytes[self.at] = byte;
+        self.at += 1;
+    }
+
     /// Writes a number in decimal.
     pub(crate) fn put_number(&mut self, number: u16)
         requires there_is_room { self.old.at + length (decimal number) ≤ length self.old.bytes.now }
@@ -36,11 +46,11 @@ impl Cursor<'_> {
     {
         let last = 48 + (number % 10) as u8;
         if number < 10 {
-            self.put(&[last]);
+            self.push(last);
             return;
         }
         self.put_number(number / 10);
-        self.put(&[last]);
+        self.push(last);
     }
 
     // Writes a letter and a number.
@@ -50,7 +60,7 @@ impl Cursor<'_> {
         ensures takes_at_most_four { self.new.at ≤ self.old.at + 4 }
         ensures wrote_the_party { Wrote self.old.bytes.now self.old.at (letter ∷ decimal number) self.new.bytes.now self.new.at }
     {
-        self.put(&[letter]);
+        self.push(letter);
         self.put_number(number as u16);
     }
 
