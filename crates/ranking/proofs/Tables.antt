@@ -40,6 +40,13 @@ no_entry n m p q =
 pub no_place : (n m p q : ℕ) → place_at (empty_table n m) p q ≡ None
 no_place n m p q = ap as_place (no_entry n m p q)
 
+pub none_distinct : (n m : ℕ) → DistinctPlaces (empty_table n m)
+none_distinct n m p q r k a b = absurd (let e = no_place n m p q in grind arith)
+
+-- an empty table is right for no choices
+pub none_entered : (n m : ℕ) → Entered (empty_table n m) []
+none_entered n m p q = no_place n m p q
+
 pub empty_whole : WholeTable (empty_table 32 16)
 empty_whole = (length-replicate 32 (empty_row 16), λ p h. ap length (get_or-replicate 32 p (empty_row 16) [] h) ∙ length-replicate {A = Option ℕ} 16 None)
 
@@ -79,17 +86,20 @@ module _ (places : List (List (Option ℕ))) (whole : WholeTable places) (o y v 
 not_among : (x : ℕ) (xs : List ℕ) → among x xs ≡ false → place_in x xs ≡ None
 not_among x xs e = let place = among_place x xs in grind arith
 
--- one more choice entered
-pub one_entered : (places : List (List (Option ℕ))) (ws : List ℕ) (w : ℕ) → WholeTable places → Enterable ws w → Entered places ws → Entered (entered places (high w) (low w) (middle w)) (ws ++ w ∷ [])
-one_entered places ws w whole fit known p q =
+-- one more choice entered: a place that was right stays right ..
+pub one_entered_at : (places : List (List (Option ℕ))) (ws : List ℕ) (w : ℕ) → WholeTable places → Enterable ws w → (p q : ℕ) → place_at places p q ≡ place_in q (ranked_by ws p) → place_at (entered places (high w) (low w) (middle w)) p q ≡ place_in q (ranked_by (ws ++ w ∷ []) p)
+one_entered_at places ws w whole fit p q were =
     let at = entered_place places whole (high w) (low w) (middle w) fit.row fit.column (omega (arith, fit.few)) p q in
-    let were = known p q in
     let place = fit.place in
     let named = ranked_by_push ws w p fit.is_of_kind in
     let others = ranked_by_other ws w p fit.is_of_kind in
     let new = place_push_new (low w) (ranked_by ws (high w)) (not_among (low w) (ranked_by ws (high w)) fit.new) in
     let old = place_push_other q (low w) (ranked_by ws p) in
     grind (arith, nat_tests)
+
+-- .. and so does a table
+pub one_entered : (places : List (List (Option ℕ))) (ws : List ℕ) (w : ℕ) → WholeTable places → Enterable ws w → Entered places ws → Entered (entered places (high w) (low w) (middle w)) (ws ++ w ∷ [])
+one_entered places ws w whole fit known p q = one_entered_at places ws w whole fit p q (known p q)
 
 -- a table that is right for some choices gives no place twice
 pub entered_distinct : (places : List (List (Option ℕ))) (ws : List ℕ) → Entered places ws → DistinctPlaces places
